@@ -1,0 +1,85 @@
+-- What a chart text is: the spelling of a plan, and which plans are within the limits. Assumes nothing.
+--     Counts             how many events, automata and states there are: what numbers are measured by
+--     line-text k v      a line: key, value, byte 10
+--     text-of p          the text of a plan: five lines of name and counts, then its automata, states and transitions
+--     Within p           every name, count, list and number of the plan is within its limits
+use mathlib.Core.Bool.{true}
+use mathlib.Core.List.{List, [], _∷_, _++_}
+use mathlib.Core.Path.{_≡_}
+use Prim.Native.Nat.{ℕ, _<_, _≤_}
+use lib.ListN.{length}
+use Rattle.std.specs.shelf.Lists.{All, joined}
+use Rattle.format.specs.Bytes.{spelled}
+use Rattle.format.specs.Elements.{Good-list, list-text}
+use Rattle.chart.specs.declared.drawing.Automaton.{Automaton}
+use Rattle.chart.specs.declared.drawing.State.{State}
+use Rattle.chart.specs.Plans.{Plan, TransitionPlan}
+use Rattle.chart_text.specs.Keys.{key-text}
+use Rattle.chart.specs.Kinds.{state-kind, automaton-kind, event-kind, term-kind, parent-kind, Named}
+use Rattle.chart_text.specs.declared.line.Key.{Key}
+use Rattle.chart_text.specs.declared.line.Key as key
+
+pub record Measures : Type 0 where
+  pub events : ℕ
+  pub automata : ℕ
+  pub states : ℕ
+
+abbrev pub measures-of : Plan → Measures
+measures-of p = record { events = p .events; automata = length (p .automata); states = length (p .states) }
+
+abbrev pub line-text : Key → List ℕ → List ℕ
+line-text k v = key-text k ++ (v ++ (10 ∷ []))
+
+abbrev pub automaton-text : Automaton → List ℕ
+automaton-text a = line-text key.the-variants.Under (parent-kind .spell (a .parent)) ++ line-text key.the-variants.First (state-kind .spell (a .initial))
+
+abbrev pub state-text : State → List ℕ
+state-text s = line-text key.the-variants.In (automaton-kind .spell (s .automaton))
+
+abbrev pub transition-text : TransitionPlan → List ℕ
+transition-text t =
+    line-text key.the-variants.From (state-kind .spell (t .source))
+    ++ (line-text key.the-variants.With (list-text state-kind (t .restriction))
+    ++ (line-text key.the-variants.On (event-kind .spell (t .trigger))
+    ++ (line-text key.the-variants.If (list-text term-kind (t .guard))
+    ++ (line-text key.the-variants.Do (list-text event-kind (t .actions))
+    ++ (line-text key.the-variants.To (state-kind .spell (t .target))
+    ++ line-text key.the-variants.Into (list-text state-kind (t .determinator)))))))
+
+abbrev pub text-of : Plan → List ℕ
+text-of p =
+    line-text key.the-variants.Chart (p .name)
+    ++ (line-text key.the-variants.Events (spelled (p .events))
+    ++ (line-text key.the-variants.Automata (spelled (length (p .automata)))
+    ++ (line-text key.the-variants.States (spelled (length (p .states)))
+    ++ (line-text key.the-variants.Transitions (spelled (length (p .transitions)))
+    ++ (joined automaton-text (p .automata)
+    ++ (joined state-text (p .states)
+    ++ joined transition-text (p .transitions)))))))
+
+pub record Good-automaton (m : Measures) (a : Automaton) : Type 0 where
+  pub parent : parent-kind .inside (m .states) (a .parent) ≡ true
+  pub initial : a .initial .0 < m .states
+
+pub record Good-transition (m : Measures) (t : TransitionPlan) : Type 0 where
+  pub source : t .source .0 < m .states
+  pub restriction : Good-list state-kind 8 (m .states) (t .restriction)
+  pub trigger : t .trigger .0 < m .events
+  pub guard : Good-list term-kind 8 (m .states) (t .guard)
+  pub actions : Good-list event-kind 8 (m .events) (t .actions)
+  pub target : t .target .0 < m .states
+  pub determinator : Good-list state-kind 24 (m .states) (t .determinator)
+
+pub record From-to (low high n : ℕ) : Type 0 where
+  pub least : low ≤ n
+  pub greatest : n ≤ high
+
+pub record Within (p : Plan) : Type 0 where
+  pub name : Named (p .name)
+  pub events : From-to 1 64 (p .events)
+  pub automata : From-to 1 24 (length (p .automata))
+  pub states : From-to 1 64 (length (p .states))
+  pub transitions : From-to 0 96 (length (p .transitions))
+  pub each-automaton : All (Good-automaton (measures-of p)) (p .automata)
+  pub each-state : All (λ s. s .automaton .0 < length (p .automata)) (p .states)
+  pub each-transition : All (Good-transition (measures-of p)) (p .transitions)

@@ -1,0 +1,3 @@
+// Chart texts: how a chart is written, and how it is read.
+pub mod count;
+pub mod line;

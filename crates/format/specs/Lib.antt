@@ -1,0 +1,4 @@
+pub mod Bytes
+pub mod Elements
+pub mod Faults
+pub mod Readers
