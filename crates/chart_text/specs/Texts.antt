@@ -1,5 +1,5 @@
 -- What a chart text is: the spelling of a plan, and which plans are within the limits. Assumes nothing.
---     Counts             how many events, automata and states there are: what numbers are measured by
+--     counts-of p        how many events, automata and states there are: what numbers are measured by
 --     line-text k v      a line: key, value, byte 10
 --     text-of p          the text of a plan: five lines of name and counts, then its automata, states and transitions
 --     Within p           every name, count, list and number of the plan is within its limits
@@ -16,16 +16,12 @@ use Rattle.chart.specs.declared.drawing.State.{State}
 use Rattle.chart.specs.Plans.{Plan, TransitionPlan}
 use Rattle.chart_text.specs.Keys.{key-text}
 use Rattle.chart.specs.Kinds.{state-kind, automaton-kind, event-kind, term-kind, parent-kind, Named}
+use Rattle.chart_text.specs.declared.count.Counts.{Counts}
 use Rattle.chart_text.specs.declared.line.Key.{Key}
 use Rattle.chart_text.specs.declared.line.Key as key
 
-pub record Measures : Type 0 where
-  pub events : ℕ
-  pub automata : ℕ
-  pub states : ℕ
-
-abbrev pub measures-of : Plan → Measures
-measures-of p = record { events = p .events; automata = length (p .automata); states = length (p .states) }
+abbrev pub counts-of : Plan → Counts
+counts-of p = record { events = p .events; automata = length (p .automata); states = length (p .states) }
 
 abbrev pub line-text : Key → List ℕ → List ℕ
 line-text k v = key-text k ++ (v ++ (10 ∷ []))
@@ -57,18 +53,18 @@ text-of p =
     ++ (joined state-text (p .states)
     ++ joined transition-text (p .transitions)))))))
 
-pub record Good-automaton (m : Measures) (a : Automaton) : Type 0 where
-  pub parent : parent-kind .inside (m .states) (a .parent) ≡ true
-  pub initial : a .initial .0 < m .states
+pub record Good-automaton (c : Counts) (a : Automaton) : Type 0 where
+  pub parent : parent-kind .inside (c .states) (a .parent) ≡ true
+  pub initial : a .initial .0 < c .states
 
-pub record Good-transition (m : Measures) (t : TransitionPlan) : Type 0 where
-  pub source : t .source .0 < m .states
-  pub restriction : Good-list state-kind 8 (m .states) (t .restriction)
-  pub trigger : t .trigger .0 < m .events
-  pub guard : Good-list term-kind 8 (m .states) (t .guard)
-  pub actions : Good-list event-kind 8 (m .events) (t .actions)
-  pub target : t .target .0 < m .states
-  pub determinator : Good-list state-kind 24 (m .states) (t .determinator)
+pub record Good-transition (c : Counts) (t : TransitionPlan) : Type 0 where
+  pub source : t .source .0 < c .states
+  pub restriction : Good-list state-kind 8 (c .states) (t .restriction)
+  pub trigger : t .trigger .0 < c .events
+  pub guard : Good-list term-kind 8 (c .states) (t .guard)
+  pub actions : Good-list event-kind 8 (c .events) (t .actions)
+  pub target : t .target .0 < c .states
+  pub determinator : Good-list state-kind 24 (c .states) (t .determinator)
 
 pub record From-to (low high n : ℕ) : Type 0 where
   pub least : low ≤ n
@@ -80,6 +76,6 @@ pub record Within (p : Plan) : Type 0 where
   pub automata : From-to 1 24 (length (p .automata))
   pub states : From-to 1 64 (length (p .states))
   pub transitions : From-to 0 96 (length (p .transitions))
-  pub each-automaton : All (Good-automaton (measures-of p)) (p .automata)
+  pub each-automaton : All (Good-automaton (counts-of p)) (p .automata)
   pub each-state : All (λ s. s .automaton .0 < length (p .automata)) (p .states)
-  pub each-transition : All (Good-transition (measures-of p)) (p .transitions)
+  pub each-transition : All (Good-transition (counts-of p)) (p .transitions)

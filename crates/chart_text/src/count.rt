@@ -6,6 +6,14 @@ use format::bytes::digits;
 use format::bytes::number;
 use format::element::Element;
 
+// How many events, automata and states there are: the numbers of each are below.
+#[derive(Clone, Copy)]
+pub struct Counts {
+    pub events: u8,
+    pub automata: u8,
+    pub states: u8,
+}
+
 // A count of at least one.
 #[derive(Clone, Copy)]
 pub struct Positive(pub u8);

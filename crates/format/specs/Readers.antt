@@ -64,6 +64,10 @@ abbrev pub times : {A : Type 0} → ℕ → ℕ → Reader A → Reader (List A)
 times zero m p n t = Ok ([], t)
 times (suc c) m p n t = and-then (p n t) (λ x. and-then (times c m p (n + m) (x .1)) (λ y. Ok (x .0 ∷ y .0, y .1)))
 
+-- what is read of a list, put behind what was read before
+abbrev pub rows-behind : {A : Type 0} → List A → Result (List A × List ℕ) TextFault → Result (List A × List ℕ) TextFault
+rows-behind before r = and-then r (λ y. Ok (before ++ y .0, y .1))
+
 abbrev pub named : {A B : Type 0} → (A → B) → Reader A → Reader B
 named f p n t = and-then (p n t) (λ x. Ok (f (x .0), x .1))
 
