@@ -97,7 +97,7 @@ name-free : (v : List ℕ) → All (λ b. is-name-byte b ≡ true) v → Free 10
 name-free [] h = tt
 name-free (x ∷ xs) h = (name-byte x (h .0), name-free xs (h .1))
 
-name-whole : Whole name-of Named (λ v. v)
+pub name-whole : Whole name-of Named (λ v. v)
 name-whole = record {
     to = λ v a h.
       let g = if-ok (leb 1 (length v) && (leb (length v) 16 && every is-name-byte v)) (Ok v) (Form 0) a h in

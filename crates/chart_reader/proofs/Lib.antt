@@ -1,2 +1,5 @@
 pub mod Exact
+pub mod Meanings
+pub mod Outcomes
 pub mod Steps
+pub mod Walks

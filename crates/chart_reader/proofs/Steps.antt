@@ -70,16 +70,16 @@ filled x before after w e none n v (Err f) h = e ∙ ap (λ w. paired (items (af
 
 -- ---- the head
 
-abbrev from-transitions : Positive → Positive → Positive → Reader (Natural × Rows)
+abbrev pub from-transitions : Positive → Positive → Positive → Reader (Natural × Rows)
 from-transitions e a s = both 1 (one natural-kind 97 key.the-variants.Transitions) (λ k. rows (counted e a s) (k .0))
 
-abbrev from-states : Positive → Positive → Reader (Positive × (Natural × Rows))
+abbrev pub from-states : Positive → Positive → Reader (Positive × (Natural × Rows))
 from-states e a = both 1 (one positive-kind 65 key.the-variants.States) (λ s. from-transitions e a s)
 
-abbrev from-automata : Positive → Reader (Positive × (Positive × (Natural × Rows)))
+abbrev pub from-automata : Positive → Reader (Positive × (Positive × (Natural × Rows)))
 from-automata e = both 1 (one positive-kind 25 key.the-variants.Automata) (λ a. from-states e a)
 
-abbrev from-events : Reader (Positive × (Positive × (Positive × (Natural × Rows))))
+abbrev pub from-events : Reader (Positive × (Positive × (Positive × (Natural × Rows))))
 from-events = both 1 (one positive-kind 65 key.the-variants.Events) (λ e. from-automata e)
 
 module _ (t r1 r2 r3 r4 r5 : List ℕ) (n : List ℕ) (e a s : Positive) (k : Natural)

@@ -2,6 +2,7 @@
 ghost use mathlib.Core.Path.{_≡_};
 ghost use Rattle.format.specs.Elements.{by};
 ghost use Rattle.chart.specs.Plans.{plan-of};
+ghost use Rattle.chart_reader.specs.Refusals.{Refusals};
 ghost use Rattle.chart_reader.specs.Verdicts.{Blank, rows, Fitting, Filled, due-end, read-through, verdict, Exactly, Gives-back, One-text};
 use super::field::field;
 use super::row::AutomatonRow;
@@ -103,6 +104,7 @@ pub fn read(text: &[u8]) -> Result<Drawing, TextFault>
     ensures exact { λ _. ⌜ Exactly ⌝ }
     ensures back { λ _. ⌜ Gives-back ⌝ }
     ensures once { λ _. ⌜ One-text ⌝ }
+    ensures refusals { λ _. ⌜ Refusals ⌝ }
 {
     if text.len() > MOST_TEXT_BYTES {
         return Err(TextFault::Oversize);

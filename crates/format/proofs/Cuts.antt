@@ -119,7 +119,7 @@ commas-pieces (x ∷ xs) =
       (λ f. rw f (commas-onto x (pieces xs) ∙ ap (λ z. x ∷ z) (commas-pieces xs)))
       (cases-bool (eqb x 44))
 
-free-none : (b : ℕ) (p : List ℕ) → Free b p → cut-at b p ≡ None
+pub free-none : (b : ℕ) (p : List ℕ) → Free b p → cut-at b p ≡ None
 free-none b [] h = refl
 free-none b (x ∷ p) h = let f = ne-eqb x b (h .0) in rw f (ap (behind x) (free-none b p (h .1)))
 

@@ -38,8 +38,16 @@ measured-ok key n (Some q) p h =
     let k = keyed-ok n (q .1) (after-key key (q .0)) p (if-ok (leb (length (q .0)) 96) (keyed n (q .1) (after-key key (q .0))) (Overlong n) p h .1) in
     ap₂ (λ x y. Some (x, y)) (after-to key (q .0) (p .0) (k .0)) (k .1)
 
+abbrev past : Option (List ℕ × List ℕ) → List ℕ
+past None = []
+past (Some p) = p .1
+
 line-to : (key : List ℕ) (n : ℕ) (t : List ℕ) (p : List ℕ × List ℕ) → line-at key n t ≡ Ok p → t ≡ (key ++ p .0) ++ (10 ∷ p .1)
 line-to key n t p h = cut-to 10 t (key ++ p .0, p .1) (measured-ok key n (cut-at 10 t) p h)
+
+-- what follows the line is what follows its end
+pub line-rest : (key : List ℕ) (n : ℕ) (t : List ℕ) (p : List ℕ × List ℕ) → line-at key n t ≡ Ok p → p .1 ≡ past (cut-at 10 t)
+line-rest key n t p h = sym (ap past (measured-ok key n (cut-at 10 t) p h))
 
 line-from : (key : List ℕ) (n : ℕ) (v r : List ℕ) → Free 10 key → Free 10 v → length (key ++ v) ≤ 96 → line-at key n ((key ++ v) ++ (10 ∷ r)) ≡ Ok (v, r)
 line-from key n v r f g l =
@@ -54,14 +62,20 @@ in-text-ok : {X : Type 0} (x : Result X LineFault) (y : X) → in-text x ≡ Ok 
 in-text-ok (Ok x) y h = ap (λ z. Ok z) (same-ok x y h)
 in-text-ok (Err f) y h = never (Line f) y h
 
+-- what a field that was read is made of: its line, its value, and the rest
+pub field-parts : {A : Type 0} (f : List ℕ → Result A ElementFault) (key : List ℕ) (n : ℕ) (t : List ℕ) (a : A) (r : List ℕ) → field f key n t ≡ Ok (a, r)
+  → (p : List ℕ × List ℕ) × (line-at key n t ≡ Ok p) × (f (p .0) ≡ Ok a) × (p .1 ≡ r)
+field-parts f key n t a r h =
+    let g = then-ok (line-at key n t) (λ p. in-line n (p .1) (f (p .0))) (a, r) (in-text-ok (value-at f key n t) (a, r) h) in
+    let k = in-line-ok n (g .0 .1) (f (g .0 .0)) (a, r) (g .2) in (g .0, g .1, k .0, k .1)
+
 module _ {A : Type 0} (f : List ℕ → Result A ElementFault) (good : A → Type 0) (spell : A → List ℕ) (key : List ℕ) (whole : Whole f good spell) (clear : Free 10 key) (brief : length key ≤ 16) where
   pub field-exact : Exact (field f key) good (λ a. key ++ (spell a ++ (10 ∷ [])))
   field-exact = record {
       to = λ n t a r h.
-        let g = then-ok (line-at key n t) (λ p. in-line n (p .1) (f (p .0))) (a, r) (in-text-ok (value-at f key n t) (a, r) h) in
-        let k = in-line-ok n (g .0 .1) (f (g .0 .0)) (a, r) (g .2) in
-        let w = whole .to (g .0 .0) a (k .0) in
-        (w .0, line-to key n t (g .0) (g .1) ∙ ap₂ (λ x y. (key ++ x) ++ (10 ∷ y)) (w .1) (k .1) ∙ simp append-assoc);
+        let g = field-parts f key n t a r h in
+        let w = whole .to (g .0 .0) a (g .2) in
+        (w .0, line-to key n t (g .0) (g .1) ∙ ap₂ (λ x y. (key ++ x) ++ (10 ∷ y)) (w .1) (g .3) ∙ simp append-assoc);
       from = λ n a r g.
         let e : (key ++ (spell a ++ (10 ∷ []))) ++ r ≡ (key ++ spell a) ++ (10 ∷ r) = simp append-assoc in
         let l : length (key ++ spell a) ≤ 96 = omega (arith, length-append key (spell a), whole .short a g) in
@@ -86,6 +100,15 @@ module _ {A B : Type 0} (m : ℕ) (p : Reader A) (q : A → Reader B) (good : A 
         ap (λ s. both m p q n s) (append-assoc (spell (x .0)) (spell2 (x .0) (x .1)) r)
         ∙ ap (λ w. and-then w (λ y. and-then (q (y .0) (n + m) (y .1)) (λ z. Ok ((y .0, z .0), z .1)))) (first .from n (x .0) (spell2 (x .0) (x .1) ++ r) (h .0))
         ∙ ap (λ w. and-then w (λ z. Ok ((x .0, z .0), z .1))) (second (x .0) (h .0) .from (n + m) (x .1) r (h .1)) }
+
+-- what two readers that read one after the other read
+pub both-parts : {A B : Type 0} (m : ℕ) (p : Reader A) (q : A → Reader B) (n : ℕ) (t : List ℕ) (x : A × B) (r : List ℕ) → both m p q n t ≡ Ok (x, r)
+  → (r1 : List ℕ) × (p n t ≡ Ok (x .0, r1)) × (q (x .0) (n + m) r1 ≡ Ok (x .1, r))
+both-parts {A} {B} m p q n t x r h =
+    let g = then-ok (p n t) (λ y. and-then (q (y .0) (n + m) (y .1)) (λ z. Ok ((y .0, z .0), z .1))) (x, r) h in
+    let j = then-ok (q (g .0 .0) (n + m) (g .0 .1)) (λ z. Ok ((g .0 .0, z .0), z .1)) (x, r) (g .2) in
+    let P : (A × B) × List ℕ → Type 0 = λ w. (r1 : List ℕ) × (p n t ≡ Ok (w .0 .0, r1)) × (q (w .0 .0) (n + m) r1 ≡ Ok (w .0 .1, w .1)) in
+    subst P (same-ok ((g .0 .0, j .0 .0), j .0 .1) (x, r) (j .2)) (g .0 .1, g .1, j .1)
 
 -- ---- under other names
 
@@ -131,6 +154,13 @@ module _ {A : Type 0} (m : ℕ) (p : Reader A) (good : A → Type 0) (spell : A 
   times-exact c = record {
       to = times-to c;
       from = λ n xs r h. ap (λ l. times l m p n (joined spell xs ++ r)) (sym (h .0)) ∙ times-from xs n r (h .1) }
+
+pub times-length : {A : Type 0} (c m : ℕ) (p : Reader A) (n : ℕ) (t : List ℕ) (xs : List A) (r : List ℕ) → times c m p n t ≡ Ok (xs, r) → length xs ≡ c
+times-length {A} zero m p n t xs r h = sym (ap (λ (w : List A × List ℕ). length (w .0)) (same-ok ([], t) (xs, r) h))
+times-length {A} (suc c) m p n t xs r h =
+    let g = then-ok (p n t) (λ x. and-then (times c m p (n + m) (x .1)) (λ y. Ok (x .0 ∷ y .0, y .1))) (xs, r) h in
+    let j = then-ok (times c m p (n + m) (g .0 .1)) (λ y. Ok (g .0 .0 ∷ y .0, y .1)) (xs, r) (g .2) in
+    sym (ap (λ (w : List A × List ℕ). length (w .0)) (same-ok (g .0 .0 ∷ j .0 .0, j .0 .1) (xs, r) (j .2))) ∙ ap suc (times-length c m p (n + m) (g .0 .1) (j .0 .0) (j .0 .1) (j .1))
 
 -- the loop over rows
 

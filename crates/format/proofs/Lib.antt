@@ -3,3 +3,4 @@ pub mod Laws
 pub mod Lists
 pub mod Numbers
 pub mod Wholes
+pub mod Wrongs

@@ -1,21 +1,21 @@
 -- The loop over the pieces of a list value. Assumes nothing.
 use mathlib.Core.Bool.{Bool, true, false, cond}
-use mathlib.Core.List.{List, [], _∷_, _++_}
-use mathlib.Core.Path.{_≡_, refl, sym, ap, ap₂, _∙_}
-use Prim.Native.Nat.{ℕ, _+_, _<_}
+use mathlib.Core.List.{List, [], _∷_, _++_, map}
+use mathlib.Core.Path.{_≡_, refl, sym, ap, ap₂, _∙_, subst}
+use Prim.Native.Nat.{ℕ, _+_, _<_, _≤_}
 use native.Mathlib.Omega.{arith}
-use lib.Dec.{leb}
+use lib.Dec.{leb, ltb}
 use lib.ListN.{length, getD, drop}
 use Rattle.std.specs.declared.option.Option.{Option}
 use Rattle.std.specs.declared.option.Option.the-variants.{Some, None}
 use Rattle.std.specs.declared.result.Result.{Result}
 use Rattle.std.specs.declared.result.Result.the-variants.{Ok, Err}
 use Rattle.std.proofs.shelf.Lists.{append-assoc, drop-more, length-push}
-use Rattle.std.proofs.shelf.Tests.{leb-false, lt-ltb}
+use Rattle.std.proofs.shelf.Tests.{leb-false, lt-ltb, ltb-true}
 use Rattle.fixed.specs.Items.{last-of}
 use Rattle.fixed.proofs.Lasts.{last-push}
 use Rattle.format.specs.Bytes.{cut-at, pieces}
-use Rattle.format.specs.Elements.{and-then, Kind, follows, placed, formed-one, put-first, grown, formed, first-outside}
+use Rattle.format.specs.Elements.{and-then, Kind, follows, placed, formed-one, put-first, grown, formed, first-outside, Ascends}
 use Rattle.format.specs.declared.fault.ElementFault.{ElementFault}
 use Rattle.format.specs.declared.fault.ElementFault.the-variants.{Form}
 use Rattle.format.proofs.Cuts.{pieces-cut, pieces-last}
@@ -105,3 +105,32 @@ pub outside-more : {E : Type 0} (inside : E → Bool) (xs : List E) (i : ℕ) (e
   → first-outside inside i (drop i xs) ≡ cond t (first-outside inside (i + 1) (drop (i + 1) xs)) (Some i)
 outside-more inside xs i e t h r p =
     ap (first-outside inside i) (drop-more xs i e h) ∙ ap (λ b. cond b (first-outside inside (i + 1) (drop (i + 1) xs)) (Some i)) (sym (p ∙ ap inside r))
+
+-- ---- what was formed is of its shape, in order, and not too many
+
+put-ok : {E F : Type 0} (e : E) (r : Result (List E) F) (xs : List E) → put-first e r ≡ Ok xs → (es : List E) × (r ≡ Ok es) × (e ∷ es ≡ xs)
+put-ok e (Ok es) xs h = (es, refl, same-ok (e ∷ es) xs h)
+put-ok e (Err f) xs h = never f xs h
+
+module _ {E : Type 0} (k : Kind E) (most : ℕ) where
+  placed-ok : (i : ℕ) (before : Option E) (o : Option E) (e : E) → placed k i before o ≡ Ok e → (o ≡ Some e) × (follows k before e ≡ true)
+  placed-ok i before None e h = never (Form i) e h
+  placed-ok i before (Some d) e h =
+      let g = if-ok (follows k before d) (Ok d) (Form i) e h in
+      let q = same-ok d e (g .1) in (ap (λ x. Some x) q, sym (ap (follows k before) q) ∙ g .0)
+
+  pub formed-ok : (i : ℕ) (before : Option E) (ps : List (List ℕ)) (xs : List E) → formed k most i before ps ≡ Ok xs
+    → (map (k .shape) ps ≡ map (λ e. Some e) xs) × (i ≤ most → i + length xs ≤ most) × Ascends k before xs
+  formed-ok i before [] xs h =
+      let e = same-ok [] xs h in
+      subst (λ ys. ([] ≡ map (λ e. Some e) ys) × (i ≤ most → i + length ys ≤ most) × Ascends k before ys) e (refl, λ l. omega arith, tt)
+  formed-ok i before (p ∷ ps) xs h =
+      let g = then-ok (formed-one k most i before p) (λ e. put-first e (formed k most (i + 1) (Some e) ps)) xs h in
+      let e = g .0 in
+      let a = if-ok (ltb i most) (placed k i before (k .shape p)) (Form i) e (g .1) in
+      let b = placed-ok i before (k .shape p) e (a .1) in
+      let c = put-ok e (formed k most (i + 1) (Some e) ps) xs (g .2) in
+      let d = formed-ok (i + 1) (Some e) ps (c .0) (c .1) in
+      let room = ltb-true i most (a .0) in
+      subst (λ ys. (map (k .shape) (p ∷ ps) ≡ map (λ e. Some e) ys) × (i ≤ most → i + length ys ≤ most) × Ascends k before ys) (c .2)
+        (ap₂ (λ y ys. y ∷ ys) (b .0) (d .0), λ l. omega (arith, d .1 (omega arith)), (b .1, d .2))

@@ -76,7 +76,7 @@ spelled-some n = ⊎-elim (λ l. rw (spelled-one n l) (omega arith)) (λ l. rw (
 pub spelled-short : (n : ℕ) → length (spelled n) ≤ 2
 spelled-short n = ⊎-elim (λ l. rw (spelled-one n l) (omega arith)) (λ l. rw (spelled-two n l) (omega arith)) (cases-lt n 10)
 
-mapped-ok : {E : Type 0} (make : ℕ → E) (num : E → ℕ) → ((n : ℕ) → num (make n) ≡ n) → (o : Option ℕ) (e : E) → mapped make o ≡ Some e → o ≡ Some (num e)
+pub mapped-ok : {E : Type 0} (make : ℕ → E) (num : E → ℕ) → ((n : ℕ) → num (make n) ≡ n) → (o : Option ℕ) (e : E) → mapped make o ≡ Some e → o ≡ Some (num e)
 mapped-ok make num back None e h = never e h
 mapped-ok make num back (Some n) e h = let q : make n ≡ e = cc in ap (λ x. Some x) (sym (back n) ∙ ap num q)
 

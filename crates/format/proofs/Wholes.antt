@@ -16,17 +16,19 @@ use Rattle.std.specs.declared.result.Result.the-variants.{Ok, Err}
 use Rattle.std.proofs.shelf.Elements.{all-append}
 use Rattle.std.proofs.shelf.Lists.{length-append}
 use Rattle.std.proofs.shelf.Tests.{cases-bool, lt-ltb, ltb-true}
-use Rattle.format.specs.Bytes.{Free, commas, elements-of}
+use Rattle.std.specs.Options.{mapped}
+use Rattle.format.specs.Bytes.{Free, commas, elements-of, number-of}
 use Rattle.format.specs.Elements.{and-then, Kind, Spells, limited, single-of, follows, placed, formed-one, put-first, formed, first-outside, unless-outside, list-of, Ascends, Good-list, list-text}
 use Rattle.format.specs.Readers.{Whole}
 use Rattle.format.specs.declared.fault.ElementFault.{ElementFault}
 use Rattle.format.specs.declared.fault.ElementFault.the-variants.{Form, Range}
 use Rattle.format.proofs.Cuts.{pieces-commas, commas-pieces, elements-some}
-use Rattle.format.proofs.Lists.{never, same-ok, then-ok, if-ok}
+use Rattle.format.proofs.Numbers.{mapped-ok}
+use Rattle.format.proofs.Lists.{never, same-ok, then-ok, if-ok, formed-ok}
 
 -- ---- one element
 
-limited-ok : {E : Type 0} (k : Kind E) (limit : ℕ) (o : Option E) (e : E) → limited k limit o ≡ Ok e → (o ≡ Some e) × (k .inside limit e ≡ true)
+pub limited-ok : {E : Type 0} (k : Kind E) (limit : ℕ) (o : Option E) (e : E) → limited k limit o ≡ Ok e → (o ≡ Some e) × (k .inside limit e ≡ true)
 limited-ok k limit None e h = never (Form 0) e h
 limited-ok k limit (Some d) e h =
     let g = if-ok (k .inside limit d) (Ok d) (Range 0) e h in
@@ -38,6 +40,11 @@ single-whole k wide limit law narrow small = record {
     from = λ e h. ap (limited k limit) (law .from limit small e h) ∙ (rw h);
     free = λ e h. law .free 10 (omega arith) e;
     short = λ e h. omega (arith, law .short e) }
+
+-- a number that was read is what the digits say
+pub single-number : {E : Type 0} (k : Kind E) (make : ℕ → E) (num : E → ℕ) → ((n : ℕ) → num (make n) ≡ n) → ((v : List ℕ) → k .shape v ≡ mapped make (number-of v))
+  → (limit : ℕ) (v : List ℕ) (e : E) → single-of k limit v ≡ Ok e → number-of v ≡ Some (num e)
+single-number k make num back shaped limit v e h = mapped-ok make num back (number-of v) e (sym (shaped v) ∙ limited-ok k limit (k .shape v) e h .0)
 
 -- ---- the elements of a list
 
@@ -73,33 +80,15 @@ unless-ok es xs (Some i) h = never (Range i) xs h
 
 -- ---- their form
 
-put-ok : {E F : Type 0} (e : E) (r : Result (List E) F) (xs : List E) → put-first e r ≡ Ok xs → (es : List E) × (r ≡ Ok es) × (e ∷ es ≡ xs)
-put-ok e (Ok es) xs h = (es, refl, same-ok (e ∷ es) xs h)
-put-ok e (Err f) xs h = never f xs h
-
-module _ {E : Type 0} (k : Kind E) (most : ℕ) where
-  placed-ok : (i : ℕ) (before : Option E) (o : Option E) (e : E) → placed k i before o ≡ Ok e → (o ≡ Some e) × (follows k before e ≡ true)
-  placed-ok i before None e h = never (Form i) e h
-  placed-ok i before (Some d) e h =
-      let g = if-ok (follows k before d) (Ok d) (Form i) e h in
-      let q = same-ok d e (g .1) in (ap (λ x. Some x) q, sym (ap (follows k before) q) ∙ g .0)
-
 module _ {E : Type 0} (k : Kind E) (most wide : ℕ) (law : Spells k wide) where
-  formed-ok : (i : ℕ) (before : Option E) (ps : List (List ℕ)) (xs : List E) → formed k most i before ps ≡ Ok xs
-    → (ps ≡ map (k .spell) xs) × (i ≤ most → i + length xs ≤ most) × Ascends k before xs
-  formed-ok i before [] xs h =
-      let e = same-ok [] xs h in
-      subst (λ ys. ([] ≡ map (k .spell) ys) × (i ≤ most → i + length ys ≤ most) × Ascends k before ys) e (refl, λ l. omega arith, tt)
-  formed-ok i before (p ∷ ps) xs h =
-      let g = then-ok (formed-one k most i before p) (λ e. put-first e (formed k most (i + 1) (Some e) ps)) xs h in
-      let e = g .0 in
-      let a = if-ok (ltb i most) (placed k i before (k .shape p)) (Form i) e (g .1) in
-      let b = placed-ok k most i before (k .shape p) e (a .1) in
-      let c = put-ok e (formed k most (i + 1) (Some e) ps) xs (g .2) in
-      let d = formed-ok (i + 1) (Some e) ps (c .0) (c .1) in
-      let room = ltb-true i most (a .0) in
-      subst (λ ys. (p ∷ ps ≡ map (k .spell) ys) × (i ≤ most → i + length ys ≤ most) × Ascends k before ys) (c .2)
-        (ap₂ (λ y ys. y ∷ ys) (law .to p e (b .0)) (d .0), λ l. omega (arith, d .1 (omega arith)), (b .1, d .2))
+  -- what has its shape is spelled so
+  shapes-spelled : (ps : List (List ℕ)) (es : List E) → map (k .shape) ps ≡ map (λ e. Some e) es → ps ≡ map (k .spell) es
+  shapes-spelled [] [] h = refl
+  shapes-spelled [] (e ∷ es) h = absurd (let z : _≡_ {A = ℕ} 0 1 = cc in omega arith)
+  shapes-spelled (p ∷ ps) [] h = absurd (let z : _≡_ {A = ℕ} 0 1 = cc in omega arith)
+  shapes-spelled (p ∷ ps) (e ∷ es) h =
+      let x : k .shape p ≡ Some e = cc in let y : map (k .shape) ps ≡ map (λ e. Some e) es = cc in
+      ap₂ (λ q qs. q ∷ qs) (law .to p e x) (shapes-spelled ps es y)
 
   formed-from : (limit : ℕ) → limit ≤ 100 → (i : ℕ) (before : Option E) (es : List E) → i + length es ≤ most → All (λ e. k .inside limit e ≡ true) es → Ascends k before es
     → formed k most i before (map (k .spell) es) ≡ Ok es
@@ -137,11 +126,11 @@ module _ {E : Type 0} (k : Kind E) (most wide : ℕ) (law : Spells k wide) where
       to = λ v xs h.
         let g = then-ok (formed k most 0 None (elements-of v)) (λ es. unless-outside es (first-outside (k .inside limit) 0 es)) xs h in
         let u = unless-ok (g .0) xs (first-outside (k .inside limit) 0 (g .0)) (g .2) in
-        let f = formed-ok 0 None (elements-of v) (g .0) (g .1) in
+        let f = formed-ok k most 0 None (elements-of v) (g .0) (g .1) in
         let e = u .1 in
         (record { few = subst (λ ys. length ys ≤ most) e (omega (arith, f .1 (omega arith))); order = subst (Ascends k None) e (f .2);
                   range = subst (All (λ e. k .inside limit e ≡ true)) e (outside-none (k .inside limit) 0 (g .0) (u .0)) },
-          elements-to v ∙ ap commas (f .0 ∙ ap (λ ys. map (k .spell) ys) e));
+          elements-to v ∙ ap commas (shapes-spelled (elements-of v) (g .0) (f .0) ∙ ap (λ ys. map (k .spell) ys) e));
       from = λ es h.
         ap (λ ps. and-then (formed k most 0 None ps) (λ es. unless-outside es (first-outside (k .inside limit) 0 es))) (elements-from es)
         ∙ ap (λ r. and-then r (λ es. unless-outside es (first-outside (k .inside limit) 0 es))) (formed-from limit small 0 None es (omega (arith, h .few)) (h .range) (h .order))

@@ -2,3 +2,4 @@ pub mod Bytes
 pub mod Elements
 pub mod Faults
 pub mod Readers
+pub mod Wrongs
