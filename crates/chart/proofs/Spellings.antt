@@ -48,17 +48,17 @@ never a h = absurd (let z : _≡_ {A = ℕ} 0 1 = cc in omega arith)
 term-parts : (letter n : ℕ) (e : Term) → term-of letter n ≡ Some e → letter ∷ spelled n ≡ term-text e
 term-parts letter n e h =
     ⊎-elim (λ s. let t = eq-eqb letter 115 s in same 115 (Active (state-no n)) s refl (rw t at h))
-      (λ ns. let f = ne-eqb letter 115 ns in let h1 = rw f at h in
-        ⊎-elim (λ s. let t = eq-eqb letter 110 s in same 110 (Inactive (state-no n)) s refl (rw t at h1))
-          (λ nn. let f1 = ne-eqb letter 110 nn in let h2 = rw f1 at h1 in
-            ⊎-elim (λ s. let t = eq-eqb letter 99 s in same 99 (Holds (condition-no n)) s refl (rw t at h2))
-              (λ nc. let f2 = ne-eqb letter 99 nc in let h3 = rw f2 at h2 in
-                ⊎-elim (λ s. let t = eq-eqb letter 100 s in same 100 (Fails (condition-no n)) s refl (rw t at h3))
-                  (λ nd. let f3 = ne-eqb letter 100 nd in never e (rw f3 at h3))
-                  (cases-eq letter 100))
-              (cases-eq letter 99))
-          (cases-eq letter 110))
-      (cases-eq letter 115)
+    (λ ns. let f = ne-eqb letter 115 ns in let h1 = rw f at h in
+    ⊎-elim (λ s. let t = eq-eqb letter 110 s in same 110 (Inactive (state-no n)) s refl (rw t at h1))
+    (λ nn. let f1 = ne-eqb letter 110 nn in let h2 = rw f1 at h1 in
+    ⊎-elim (λ s. let t = eq-eqb letter 99 s in same 99 (Holds (condition-no n)) s refl (rw t at h2))
+    (λ nc. let f2 = ne-eqb letter 99 nc in let h3 = rw f2 at h2 in
+    ⊎-elim (λ s. let t = eq-eqb letter 100 s in same 100 (Fails (condition-no n)) s refl (rw t at h3))
+    (λ nd. let f3 = ne-eqb letter 100 nd in never e (rw f3 at h3))
+    (cases-eq letter 100))
+    (cases-eq letter 99))
+    (cases-eq letter 110))
+    (cases-eq letter 115)
   where
     same : (b : ℕ) (t : Term) → letter ≡ b → b ∷ spelled n ≡ term-text t → Some t ≡ Some e → letter ∷ spelled n ≡ term-text e
     same b t l s q = let r : t ≡ e = cc in ap (λ x. x ∷ spelled n) l ∙ s ∙ ap term-text r
@@ -114,9 +114,9 @@ number-under (Some n) v d e h = let q : State (state-no n) ≡ e = cc in number-
 parent-to : (v : List ℕ) (e : Parent) → parent-shape v ≡ Some e → v ≡ parent-text e
 parent-to v e h =
     ⊎-elim
-      (λ t. let g : Some Top ≡ Some e = rw t at h in let q : Top ≡ e = cc in sameBytes-decides v (codes "top") .0 t ∙ ap parent-text q)
-      (λ f. number-under (number-of v) v refl e (rw f at h))
-      (cases-bool (sameBytes v (codes "top")))
+    (λ t. let g : Some Top ≡ Some e = rw t at h in let q : Top ≡ e = cc in sameBytes-decides v (codes "top") .0 t ∙ ap parent-text q)
+    (λ f. number-under (number-of v) v refl e (rw f at h))
+    (cases-bool (sameBytes v (codes "top")))
 
 parent-from : (limit : ℕ) → limit ≤ 100 → (e : Parent) → parent-inside limit e ≡ true → parent-shape (parent-text e) ≡ Some e
 parent-from limit l Top h = refl

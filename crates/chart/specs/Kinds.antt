@@ -56,7 +56,7 @@ event-kind = numbered event-no (λ e. e .0) any-order (λ limit e. ltb (e .0) li
 -- a term is one of four letters and a number: s and n name a state, c and d a condition
 abbrev pub term-of : ℕ → ℕ → Option Term
 term-of letter n = cond (eqb letter 115) (Some (Active (state-no n))) (cond (eqb letter 110) (Some (Inactive (state-no n)))
-  (cond (eqb letter 99) (Some (Holds (condition-no n))) (cond (eqb letter 100) (Some (Fails (condition-no n))) None)))
+    (cond (eqb letter 99) (Some (Holds (condition-no n))) (cond (eqb letter 100) (Some (Fails (condition-no n))) None)))
 
 abbrev pub lettered : ℕ → Option ℕ → Option Term
 lettered letter None = None

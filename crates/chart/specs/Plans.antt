@@ -32,18 +32,20 @@ pub record Plan : Type 0 where
 
 abbrev pub transition-plan : Transition → TransitionPlan
 transition-plan t = record {
-    source = t .source;
-    restriction = items (t .«source_restriction»);
-    trigger = t .trigger;
-    guard = items (t .guard);
-    actions = items (t .actions);
-    target = t .target;
-    determinator = items (t .«target_determinator») }
+  source = t .source;
+  restriction = items (t .«source_restriction»);
+  trigger = t .trigger;
+  guard = items (t .guard);
+  actions = items (t .actions);
+  target = t .target;
+  determinator = items (t .«target_determinator»);
+}
 
 abbrev pub plan-of : Drawing → Plan
 plan-of d = record {
-    name = items (d .name .bytes);
-    events = d .events;
-    automata = items (d .automata);
-    states = items (d .states);
-    transitions = map transition-plan (items (d .transitions)) }
+  name = items (d .name .bytes);
+  events = d .events;
+  automata = items (d .automata);
+  states = items (d .states);
+  transitions = map transition-plan (items (d .transitions));
+}

@@ -3,22 +3,29 @@ use super::id::AutomatonId;
 use super::id::ConditionId;
 use super::id::EventId;
 use super::id::StateId;
-use fixed::array_vec::ArrayVec;
 use crate::id::AutomatonIdDebug;
 use crate::id::AutomatonIdPartialEq;
 use crate::id::ConditionIdDebug;
 use crate::id::ConditionIdPartialEq;
 use crate::id::StateIdDebug;
 use crate::id::StateIdPartialEq;
+use fixed::array_vec::ArrayVec;
 
 // How much of everything a drawing has room for.
 pub const MOST_NAME_BYTES: usize = 16;
+
 pub const MOST_AUTOMATA: usize = 24;
+
 pub const MOST_STATES: usize = 64;
+
 pub const MOST_TRANSITIONS: usize = 96;
+
 pub const MOST_RESTRICTIONS: usize = 8;
+
 pub const MOST_TERMS: usize = 8;
+
 pub const MOST_ACTIONS: usize = 8;
+
 pub const MOST_DETERMINATORS: usize = 24;
 
 // A chart's name: small letters, digits and underscores.

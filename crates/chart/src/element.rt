@@ -19,6 +19,7 @@ use format::element::Element;
 
 pub impl Element for StateId as StateIdElement {
     ghost kind = { state-kind };
+
     ghost wide = { 2 };
 
     fn letters(self) -> ArrayVec<u8, 4> {
@@ -45,6 +46,7 @@ pub impl Element for StateId as StateIdElement {
 
 pub impl Element for AutomatonId as AutomatonIdElement {
     ghost kind = { automaton-kind };
+
     ghost wide = { 2 };
 
     fn letters(self) -> ArrayVec<u8, 4> {
@@ -70,6 +72,7 @@ pub impl Element for AutomatonId as AutomatonIdElement {
 
 pub impl Element for EventId as EventIdElement {
     ghost kind = { event-kind };
+
     ghost wide = { 2 };
 
     fn letters(self) -> ArrayVec<u8, 4> {
@@ -108,6 +111,7 @@ fn term(letter: char, number: u8) -> Option<Term>
 
 pub impl Element for Term as TermElement {
     ghost kind = { term-kind };
+
     ghost wide = { 3 };
 
     fn letters(self) -> ArrayVec<u8, 4> {
@@ -157,6 +161,7 @@ fn lettered(letter: u8, number: u8) -> ArrayVec<u8, 4>
 
 pub impl Element for Parent as ParentElement {
     ghost kind = { parent-kind };
+
     ghost wide = { 3 };
 
     fn letters(self) -> ArrayVec<u8, 4> {

@@ -30,7 +30,9 @@ fn is_plain(bytes: &[u8]) -> bool
 
 pub impl Value for Name as NameValue {
     ghost Said = { List ℕ };
+
     ghost said = { λ n. items (n .bytes) };
+
     ghost reads = { λ _ v. name-of v };
 
     // A name has 1 to 16 bytes; how many there are is a matter of its form.

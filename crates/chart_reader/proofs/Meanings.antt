@@ -43,12 +43,13 @@ same-err x y h = cc
 -- ---- a value's fault by calculation is its fault by the rules
 
 name-to : (v : List ℕ) (e : ElementFault) → fault-of (name-of v) ≡ Some e → (Named v → ⊥) × (e ≡ Form 0)
-name-to v e h =
-    (λ n. none-some e (sym (ap fault-of (name-whole .from v n)) ∙ h),
-     ⊎-elim
-       (λ t. none-some e (rw t at h))
-       (λ f. let x : Some (Form 0) ≡ Some e = rw f at h in cc)
-       (cases-bool (leb 1 (length v) && (leb (length v) 16 && every is-name-byte v))))
+name-to v e h = (
+  λ n. none-some e (sym (ap fault-of (name-whole .from v n)) ∙ h),
+  ⊎-elim
+      (λ t. none-some e (rw t at h))
+      (λ f. let x : Some (Form 0) ≡ Some e = rw f at h in cc)
+      (cases-bool (leb 1 (length v) && (leb (length v) 16 && every is-name-byte v))),
+)
 
 name-from : (v : List ℕ) (e : ElementFault) → (Named v → ⊥) × (e ≡ Form 0) → fault-of (name-of v) ≡ Some e
 name-from v e h = name-cases (name-of v) refl
@@ -115,7 +116,7 @@ right-clear c (k ∷ ks) n s h = (none (fault-at c k n s) refl, right-clear c ks
 
 -- a line among right ones is right
 among : (c : Counts) (ks before : List Key) (due : Key) (after : List Key) (n : ℕ) (s : List ℕ) → Clear c ks n s → ks ≡ before ++ (due ∷ after)
-  → fault-at c due (n + length before) (skip-lines (length before) s) ≡ None
+    → fault-at c due (n + length before) (skip-lines (length before) s) ≡ None
 among c [] [] due after n s h e = absurd (let z : _≡_ {A = ℕ} 0 1 = cc in omega arith)
 among c [] (b ∷ before) due after n s h e = absurd (let z : _≡_ {A = ℕ} 0 1 = cc in omega arith)
 among c (k ∷ ks) [] due after n s h e = let q : k ≡ due = cc in let z : n + 0 ≡ n = omega arith in ap₂ (λ m w. fault-at c w m s) z (sym q) ∙ h .0
@@ -125,7 +126,7 @@ among c (k ∷ ks) (b ∷ before) due after n s h e =
 
 -- two first wrong lines have one fault
 agree : (c : Counts) (b1 b2 : List Key) (d1 d2 : Key) (a1 a2 : List Key) (n : ℕ) (s : List ℕ) (f1 f2 : LineFault) → b1 ++ (d1 ∷ a1) ≡ b2 ++ (d2 ∷ a2)
-  → Clear c b1 n s → Clear c b2 n s → fault-at c d1 (n + length b1) (skip-lines (length b1) s) ≡ Some f1 → fault-at c d2 (n + length b2) (skip-lines (length b2) s) ≡ Some f2 → f1 ≡ f2
+    → Clear c b1 n s → Clear c b2 n s → fault-at c d1 (n + length b1) (skip-lines (length b1) s) ≡ Some f1 → fault-at c d2 (n + length b2) (skip-lines (length b2) s) ≡ Some f2 → f1 ≡ f2
 agree c [] [] d1 d2 a1 a2 n s f1 f2 e c1 c2 w1 w2 =
     let q : d1 ≡ d2 = cc in let x : Some f1 ≡ Some f2 = sym w1 ∙ ap (λ d. fault-at c d (n + 0) s) q ∙ w2 in cc
 agree c [] (k ∷ b2) d1 d2 a1 a2 n s f1 f2 e c1 c2 w1 w2 =
@@ -136,15 +137,19 @@ agree c (k ∷ b1) (j ∷ b2) d1 d2 a1 a2 n s f1 f2 e c1 c2 w1 w2 =
     let q : b1 ++ (d1 ∷ a1) ≡ b2 ++ (d2 ∷ a2) = cc in
     let z1 : n + 1 + length b1 ≡ n + suc (length b1) = omega arith in let z2 : n + 1 + length b2 ≡ n + suc (length b2) = omega arith in
     agree c b1 b2 d1 d2 a1 a2 (n + 1) (next-line s) f1 f2 q (c1 .1) (c2 .1)
-      (ap (λ m. fault-at c d1 m (skip-lines (length b1) (next-line s))) z1 ∙ w1) (ap (λ m. fault-at c d2 m (skip-lines (length b2) (next-line s))) z2 ∙ w2)
+    (ap (λ m. fault-at c d1 m (skip-lines (length b1) (next-line s))) z1 ∙ w1) (ap (λ m. fault-at c d2 m (skip-lines (length b2) (next-line s))) z2 ∙ w2)
 
 first-wrong : (t : List ℕ) (f : LineFault) → Broken (counts-in t) (keys-in t) 1 t (Line f) → First-wrong (counts-in t) (keys-in t) t f
 first-wrong t f b =
     let q : b .fault ≡ f = same-line (b .fault) f (b .is) in
     record {
-      before = b .before; due = b .due; after = b .after; split = b .split;
+      before = b .before;
+      due = b .due;
+      after = b .after;
+      split = b .split;
       right = clear-right (counts-in t) (b .before) 1 t (b .right);
-      wrong = wrong-to (counts-in t) (b .due) (1 + length (b .before)) (skip-lines (length (b .before)) t) f (b .wrong ∙ ap (λ x. Some x) q) }
+      wrong = wrong-to (counts-in t) (b .due) (1 + length (b .before)) (skip-lines (length (b .before)) t) f (b .wrong ∙ ap (λ x. Some x) q);
+    }
   where
     same-line : (x y : LineFault) → Line x ≡ Line y → x ≡ y
     same-line x y h = cc
@@ -168,14 +173,14 @@ module _ (t : List ℕ) (size : length t ≤ 16384) where
   not-clear : (f : LineFault) → First-wrong (counts-in t) (keys-in t) t f → Clear (counts-in t) (keys-in t) 1 t → ⊥
   not-clear f w c =
       none-some f (sym (among (counts-in t) (keys-in t) (w .before) (w .due) (w .after) 1 t c (w .split))
-        ∙ wrong-from (counts-in t) (w .due) (1 + length (w .before)) (skip-lines (length (w .before)) t) f (w .wrong))
+      ∙ wrong-from (counts-in t) (w .due) (1 + length (w .before)) (skip-lines (length (w .before)) t) f (w .wrong))
 
   line-when : (o : Outcome t) (f : LineFault) → First-wrong (counts-in t) (keys-in t) t f → verdict t ≡ Err (Line f)
   line-when (accepted p r c e) f w = absurd (not-clear f w c)
   line-when (stopped e r b) f w =
       let q = agree (counts-in t) (b .before) (w .before) (b .due) (w .due) (b .after) (w .after) 1 t (b .fault) f (sym (b .split) ∙ w .split)
-                (b .right) (right-clear (counts-in t) (w .before) 1 t (w .right)) (b .wrong)
-                (wrong-from (counts-in t) (w .due) (1 + length (w .before)) (skip-lines (length (w .before)) t) f (w .wrong)) in
+      (b .right) (right-clear (counts-in t) (w .before) 1 t (w .right)) (b .wrong)
+      (wrong-from (counts-in t) (w .due) (1 + length (w .before)) (skip-lines (length (w .before)) t) f (w .wrong)) in
       as-read ∙ r ∙ ap (λ x. Err x) (sym (b .is) ∙ ap (λ x. Line x) q)
   line-when (going-on r c e) f w = absurd (not-clear f w c)
 
@@ -200,18 +205,22 @@ module _ (t : List ℕ) (size : length t ≤ 16384) where
 small : (t : List ℕ) (e : TextFault) → (Oversize ≡ e → ⊥) → verdict t ≡ Err e → length t ≤ 16384
 small t e other h =
     ⊎-elim
-      (λ b. leb-true (length t) 16384 b)
-      (λ b. absurd (other (same-err Oversize e (rw b at h))))
-      (cases-bool (leb (length t) 16384))
+    (λ b. leb-true (length t) 16384 b)
+    (λ b. absurd (other (same-err Oversize e (rw b at h))))
+    (cases-bool (leb (length t) 16384))
 
 pub refusals : Refusals
 refusals t = record {
-    oversize = (
-      λ h. ⊎-elim (λ b. absurd (never-oversize t (leb-true (length t) 16384 b) (outcome t) h)) (λ b. leb-false (length t) 16384 b) (cases-bool (leb (length t) 16384)),
-      λ h. let b = lt-leb (length t) 16384 h in rw b);
-    in-a-line = λ f. (
-      λ h. let l = small t (Line f) (λ x. let z : _≡_ {A = ℕ} 0 1 = cc in omega arith) h in (l, line-then t l (outcome t) f h),
-      λ h. line-when t (h .0) (outcome t) f (h .1));
-    trailing = λ n. (
-      λ h. let l = small t (Trailing n) (λ x. let z : _≡_ {A = ℕ} 0 1 = cc in omega arith) h in (l, trailing-then t l (outcome t) n h),
-      λ h. trailing-when t (h .0) (outcome t) n (h .1)) }
+  oversize = (
+    λ h. ⊎-elim (λ b. absurd (never-oversize t (leb-true (length t) 16384 b) (outcome t) h)) (λ b. leb-false (length t) 16384 b) (cases-bool (leb (length t) 16384)),
+    λ h. let b = lt-leb (length t) 16384 h in rw b,
+  );
+  in-a-line = λ f. (
+    λ h. let l = small t (Line f) (λ x. let z : _≡_ {A = ℕ} 0 1 = cc in omega arith) h in (l, line-then t l (outcome t) f h),
+    λ h. line-when t (h .0) (outcome t) f (h .1),
+  );
+  trailing = λ n. (
+    λ h. let l = small t (Trailing n) (λ x. let z : _≡_ {A = ℕ} 0 1 = cc in omega arith) h in (l, trailing-then t l (outcome t) n h),
+    λ h. trailing-when t (h .0) (outcome t) n (h .1),
+  );
+}

@@ -37,8 +37,8 @@ use Rattle.chart_reader.proofs.Walks.{Clear, Broken, Walks, field-walks, both-
 automaton-walks : (c : Counts) (n : ℕ) (s : List ℕ) → Walks c (automaton-lines c) (Under ∷ (First ∷ [])) n s
 automaton-walks c n s =
     named-walks c automaton _ _ n s (both-walks c 1 (one parent-kind (c .states) Under) (λ _. one state-kind (c .states) First) (Under ∷ []) (First ∷ []) n s refl
-      (field-walks c (single-of parent-kind (c .states)) Under (λ v. refl) n s)
-      (λ _ r _. field-walks c (single-of state-kind (c .states)) First (λ v. refl) (n + 1) r))
+    (field-walks c (single-of parent-kind (c .states)) Under (λ v. refl) n s)
+    (λ _ r _. field-walks c (single-of state-kind (c .states)) First (λ v. refl) (n + 1) r))
 
 state-walks : (c : Counts) (n : ℕ) (s : List ℕ) → Walks c (state-lines c) (In ∷ []) n s
 state-walks c n s = named-walks c state _ _ n s (field-walks c (single-of automaton-kind (c .automata)) In (λ v. refl) n s)
@@ -46,13 +46,13 @@ state-walks c n s = named-walks c state _ _ n s (field-walks c (single-of automa
 transition-walks : (c : Counts) (n : ℕ) (s : List ℕ) → Walks c (transition-lines c) transition-keys n s
 transition-walks c n s =
     named-walks c transition _ _ n s
-      (both-walks c 1 _ _ (From ∷ []) _ n s refl (field-walks c (single-of state-kind (c .states)) From (λ v. refl) n s) (λ _ r1 _.
-       both-walks c 1 _ _ (With ∷ []) _ (n + 1) r1 refl (field-walks c (list-of state-kind 8 (c .states)) With (λ v. refl) (n + 1) r1) (λ _ r2 _.
-       both-walks c 1 _ _ (On ∷ []) _ (n + 1 + 1) r2 refl (field-walks c (single-of event-kind (c .events)) On (λ v. refl) (n + 1 + 1) r2) (λ _ r3 _.
-       both-walks c 1 _ _ (If ∷ []) _ (n + 1 + 1 + 1) r3 refl (field-walks c (list-of term-kind 8 (c .states)) If (λ v. refl) (n + 1 + 1 + 1) r3) (λ _ r4 _.
-       both-walks c 1 _ _ (Do ∷ []) _ (n + 1 + 1 + 1 + 1) r4 refl (field-walks c (list-of event-kind 8 (c .events)) Do (λ v. refl) (n + 1 + 1 + 1 + 1) r4) (λ _ r5 _.
-       both-walks c 1 _ _ (To ∷ []) (Into ∷ []) (n + 1 + 1 + 1 + 1 + 1) r5 refl (field-walks c (single-of state-kind (c .states)) To (λ v. refl) (n + 1 + 1 + 1 + 1 + 1) r5) (λ _ r6 _.
-       field-walks c (list-of state-kind 24 (c .states)) Into (λ v. refl) (n + 1 + 1 + 1 + 1 + 1 + 1) r6)))))))
+    (both-walks c 1 _ _ (From ∷ []) _ n s refl (field-walks c (single-of state-kind (c .states)) From (λ v. refl) n s) (λ _ r1 _.
+    both-walks c 1 _ _ (With ∷ []) _ (n + 1) r1 refl (field-walks c (list-of state-kind 8 (c .states)) With (λ v. refl) (n + 1) r1) (λ _ r2 _.
+    both-walks c 1 _ _ (On ∷ []) _ (n + 1 + 1) r2 refl (field-walks c (single-of event-kind (c .events)) On (λ v. refl) (n + 1 + 1) r2) (λ _ r3 _.
+    both-walks c 1 _ _ (If ∷ []) _ (n + 1 + 1 + 1) r3 refl (field-walks c (list-of term-kind 8 (c .states)) If (λ v. refl) (n + 1 + 1 + 1) r3) (λ _ r4 _.
+    both-walks c 1 _ _ (Do ∷ []) _ (n + 1 + 1 + 1 + 1) r4 refl (field-walks c (list-of event-kind 8 (c .events)) Do (λ v. refl) (n + 1 + 1 + 1 + 1) r4) (λ _ r5 _.
+    both-walks c 1 _ _ (To ∷ []) (Into ∷ []) (n + 1 + 1 + 1 + 1 + 1) r5 refl (field-walks c (single-of state-kind (c .states)) To (λ v. refl) (n + 1 + 1 + 1 + 1 + 1) r5) (λ _ r6 _.
+    field-walks c (list-of state-kind 24 (c .states)) Into (λ v. refl) (n + 1 + 1 + 1 + 1 + 1 + 1) r6)))))))
 
 repeated-length : (n : ℕ) (ks : List Key) → length (repeated n ks) ≡ n * length ks
 repeated-length zero ks = omega arith
@@ -61,18 +61,18 @@ repeated-length (suc n) ks = let h = repeated-length n ks in let l = length-appe
 rows-walks : (c : Counts) (count n : ℕ) (s : List ℕ) → Walks c (rows c count) (row-keys (c .automata) (c .states) count) n s
 rows-walks c count n s =
     both-walks c (2 * c .automata) (times (c .automata) 2 (automaton-lines c)) (λ _. both (c .states) (times (c .states) 1 (state-lines c)) (λ _. times count 7 (transition-lines c)))
-      (repeated (c .automata) (Under ∷ (First ∷ []))) (repeated (c .states) (In ∷ []) ++ repeated count transition-keys) n s
-      (omega (arith, repeated-length (c .automata) (Under ∷ (First ∷ []))))
-      (times-walks c 2 (automaton-lines c) (Under ∷ (First ∷ [])) refl (automaton-walks c) (c .automata) n s)
-      (λ _ r1 _. both-walks c (c .states) (times (c .states) 1 (state-lines c)) (λ _. times count 7 (transition-lines c)) (repeated (c .states) (In ∷ [])) (repeated count transition-keys)
-        (n + 2 * c .automata) r1 (omega (arith, repeated-length (c .states) (In ∷ [])))
-        (times-walks c 1 (state-lines c) (In ∷ []) refl (state-walks c) (c .states) (n + 2 * c .automata) r1)
-        (λ _ r2 _. times-walks c 7 (transition-lines c) transition-keys refl (transition-walks c) count (n + 2 * c .automata + c .states) r2))
+    (repeated (c .automata) (Under ∷ (First ∷ []))) (repeated (c .states) (In ∷ []) ++ repeated count transition-keys) n s
+    (omega (arith, repeated-length (c .automata) (Under ∷ (First ∷ []))))
+    (times-walks c 2 (automaton-lines c) (Under ∷ (First ∷ [])) refl (automaton-walks c) (c .automata) n s)
+    (λ _ r1 _. both-walks c (c .states) (times (c .states) 1 (state-lines c)) (λ _. times count 7 (transition-lines c)) (repeated (c .states) (In ∷ [])) (repeated count transition-keys)
+    (n + 2 * c .automata) r1 (omega (arith, repeated-length (c .states) (In ∷ [])))
+    (times-walks c 1 (state-lines c) (In ∷ []) refl (state-walks c) (c .states) (n + 2 * c .automata) r1)
+    (λ _ r2 _. times-walks c 7 (transition-lines c) transition-keys refl (transition-walks c) count (n + 2 * c .automata + c .states) r2))
 
 -- ---- the head states the counts
 
 stated-number : {E : Type 0} (kind : Kind E) (make : ℕ → E) (num : E → ℕ) → ((n : ℕ) → num (make n) ≡ n) → ((v : List ℕ) → kind .shape v ≡ mapped make (number-of v))
-  → (limit : ℕ) (k : Key) (n : ℕ) (s : List ℕ) (e : E) (r : List ℕ) → one kind limit k n s ≡ Ok (e, r) → stated k n s ≡ num e
+    → (limit : ℕ) (k : Key) (n : ℕ) (s : List ℕ) (e : E) (r : List ℕ) → one kind limit k n s ≡ Ok (e, r) → stated k n s ≡ num e
 stated-number kind make num back shaped limit k n s e r h =
     let g = field-parts (single-of kind limit) (key-text k) n s e r h in
     ap number-in (g .1) ∙ ap or-zero (single-number kind make num back shaped limit (g .0 .0) e (g .2))
@@ -86,8 +86,8 @@ pub record Head-read (t : List ℕ) (e a s : Positive) (k : Natural) : Type 0 wh
   pub transitions : stated Transitions 5 (skip-lines 4 t) ≡ k .0
 
 head-read : (t : List ℕ) (n r1 r2 r3 r4 r5 : List ℕ) (e a s : Positive) (k : Natural)
-  → field name-of (key-text Chart) 1 t ≡ Ok (n, r1) → one positive-kind 65 Events 2 r1 ≡ Ok (e, r2) → one positive-kind 25 Automata 3 r2 ≡ Ok (a, r3)
-  → one positive-kind 65 States 4 r3 ≡ Ok (s, r4) → one natural-kind 97 Transitions 5 r4 ≡ Ok (k, r5) → Head-read t e a s k
+    → field name-of (key-text Chart) 1 t ≡ Ok (n, r1) → one positive-kind 65 Events 2 r1 ≡ Ok (e, r2) → one positive-kind 25 Automata 3 r2 ≡ Ok (a, r3)
+    → one positive-kind 65 States 4 r3 ≡ Ok (s, r4) → one natural-kind 97 Transitions 5 r4 ≡ Ok (k, r5) → Head-read t e a s k
 head-read t n r1 r2 r3 r4 r5 e a s k h1 h2 h3 h4 h5 =
     let c = counts-in t in
     let s1 : r1 ≡ skip-lines 1 t = field-walks c name-of Chart (λ v. refl) 1 t .ok n r1 h1 .1 in
@@ -100,22 +100,23 @@ head-read t n r1 r2 r3 r4 r5 e a s k h1 h2 h3 h4 h5 =
     let make : ℕ → ℕ → ℕ → Counts = λ x y z. record { events = x; automata = y; states = z } in
     record {
       counts = ap (λ x. make x (c .automata) (c .states)) ve ∙ ap (λ y. make (e .0) y (c .states)) va ∙ ap (make (e .0) (a .0)) vs;
-      transitions = sym (ap (stated Transitions 5) s4) ∙ stated-number natural-kind natural-no (λ (c : Natural). c .0) (λ n. refl) (λ v. refl) 97 Transitions 5 r4 k r5 h5 }
+      transitions = sym (ap (stated Transitions 5) s4) ∙ stated-number natural-kind natural-no (λ (c : Natural). c .0) (λ n. refl) (λ v. refl) 97 Transitions 5 r4 k r5 h5;
+    }
 
 drawn-walks : (t : List ℕ) → Walks (counts-in t) drawn (keys-in t) 1 t
 drawn-walks t =
     let c = counts-in t in
     let count = stated Transitions 5 (skip-lines 4 t) in
     named-walks c plan _ _ 1 t
-      (both-walks c 1 (field name-of (key-text Chart)) (λ _. from-events) (Chart ∷ []) _ 1 t refl (field-walks c name-of Chart (λ v. refl) 1 t) (λ n r1 h1.
-       both-walks c 1 (one positive-kind 65 Events) from-automata (Events ∷ []) _ 2 r1 refl (field-walks c (single-of positive-kind 65) Events (λ v. refl) 2 r1) (λ e r2 h2.
-       both-walks c 1 (one positive-kind 25 Automata) (from-states e) (Automata ∷ []) _ 3 r2 refl (field-walks c (single-of positive-kind 25) Automata (λ v. refl) 3 r2) (λ a r3 h3.
-       both-walks c 1 (one positive-kind 65 States) (from-transitions e a) (States ∷ []) _ 4 r3 refl (field-walks c (single-of positive-kind 65) States (λ v. refl) 4 r3) (λ s r4 h4.
-       both-walks c 1 (one natural-kind 97 Transitions) (λ k. rows (counted e a s) (k .0)) (Transitions ∷ []) (row-keys (c .automata) (c .states) count) 5 r4 refl
-         (field-walks c (single-of natural-kind 97) Transitions (λ v. refl) 5 r4) (λ k r5 h5.
-         let h = head-read t n r1 r2 r3 r4 r5 e a s k h1 h2 h3 h4 h5 in
-         subst (λ w. Walks c (rows w (k .0)) (row-keys (c .automata) (c .states) count) 6 r5) (h .counts)
-           (subst (λ w. Walks c (rows c w) (row-keys (c .automata) (c .states) count) 6 r5) (h .transitions) (rows-walks c count 6 r5))))))))
+    (both-walks c 1 (field name-of (key-text Chart)) (λ _. from-events) (Chart ∷ []) _ 1 t refl (field-walks c name-of Chart (λ v. refl) 1 t) (λ n r1 h1.
+    both-walks c 1 (one positive-kind 65 Events) from-automata (Events ∷ []) _ 2 r1 refl (field-walks c (single-of positive-kind 65) Events (λ v. refl) 2 r1) (λ e r2 h2.
+    both-walks c 1 (one positive-kind 25 Automata) (from-states e) (Automata ∷ []) _ 3 r2 refl (field-walks c (single-of positive-kind 25) Automata (λ v. refl) 3 r2) (λ a r3 h3.
+    both-walks c 1 (one positive-kind 65 States) (from-transitions e a) (States ∷ []) _ 4 r3 refl (field-walks c (single-of positive-kind 65) States (λ v. refl) 4 r3) (λ s r4 h4.
+    both-walks c 1 (one natural-kind 97 Transitions) (λ k. rows (counted e a s) (k .0)) (Transitions ∷ []) (row-keys (c .automata) (c .states) count) 5 r4 refl
+    (field-walks c (single-of natural-kind 97) Transitions (λ v. refl) 5 r4) (λ k r5 h5.
+    let h = head-read t n r1 r2 r3 r4 r5 e a s k h1 h2 h3 h4 h5 in
+    subst (λ w. Walks c (rows w (k .0)) (row-keys (c .automata) (c .states) count) 6 r5) (h .counts)
+    (subst (λ w. Walks c (rows c w) (row-keys (c .automata) (c .states) count) 6 r5) (h .transitions) (rows-walks c count 6 r5))))))))
 
 -- ---- the end
 
@@ -167,7 +168,7 @@ rest-cases : (t : List ℕ) (p : Plan) (r : List ℕ) → drawn 1 t ≡ Ok (p, r
 rest-cases t p [] h e c = accepted p (ap (λ w. and-then w (λ x. ended (due-end (x .0)) x)) h) c (sym e)
 rest-cases t p (b ∷ r) h e c =
     going-on (ap (λ w. and-then w (λ x. ended (due-end (x .0)) x)) h ∙ ap (λ n. Err (Trailing n)) (drawn-end t p (b ∷ r) h)) c
-      (λ z. let y : b ∷ r ≡ [] = e ∙ z in absurd (let w : _≡_ {A = ℕ} 0 1 = cc in omega arith))
+    (λ z. let y : b ∷ r ≡ [] = e ∙ z in absurd (let w : _≡_ {A = ℕ} 0 1 = cc in omega arith))
 
 drawn-cases : (t : List ℕ) (x : Result (Plan × List ℕ) TextFault) → drawn 1 t ≡ x → Outcome t
 drawn-cases t (Ok y) h = let w = drawn-walks t .ok (y .0) (y .1) h in rest-cases t (y .0) (y .1) h (w .1) (w .0)

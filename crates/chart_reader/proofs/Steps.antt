@@ -5,7 +5,6 @@ use Prim.Native.Nat.{ℕ, _+_, _*_}
 use native.Mathlib.Omega.{arith}
 use denote.Ref.{RefT}
 use lib.ListN.{length}
-use Rattle.std.specs.Results.{Cases}
 use Rattle.std.specs.declared.result.Result.{Result}
 use Rattle.std.specs.declared.result.Result.the-variants.{Ok, Err}
 use Rattle.std.proofs.shelf.Lists.{map-id}
@@ -26,7 +25,7 @@ use Rattle.chart_text.specs.declared.count.Counts.{Counts}
 use Rattle.chart_text.specs.declared.count.Positive.{Positive}
 use Rattle.chart_text.specs.declared.count.Natural.{Natural}
 use Rattle.chart_text.specs.declared.line.Key as key
-use Rattle.chart_reader.specs.Verdicts.{one, automaton-lines, state-lines, transition-lines, Rows, rows, rows-in, Blank, Rows-read, Filled, PlanParts, plan, counted, drawn, due-end, read-through}
+use Rattle.chart_reader.specs.Verdicts.{Rows-give, one, automaton-lines, state-lines, transition-lines, Rows, rows, rows-in, Blank, Rows-read, Filled, PlanParts, plan, counted, drawn, due-end, read-through}
 
 -- one part, with what the next part gives
 abbrev pub paired : {A B : Type 0} → A → Result (B × List ℕ) TextFault → Result ((A × B) × List ℕ) TextFault
@@ -46,26 +45,27 @@ fresh {A = A} f before w x e h = sym (alone w) ∙ ap (λ xs. rows-behind (map f
     alone (Err g) = refl
 
 pub plain : {A : Type 0} (before ys : List A) (w : Result (List A × List ℕ) TextFault) (r : List ℕ) → before ≡ []
-  → rows-behind (map (λ a. a) before) w ≡ Ok (map (λ a. a) ys, r) → w ≡ Ok (ys, r)
+    → rows-behind (map (λ a. a) before) w ≡ Ok (map (λ a. a) ys, r) → w ≡ Ok (ys, r)
 plain before ys w r e h = fresh (λ a. a) before w _ e h ∙ ap (λ xs. Ok (xs, r)) (map-id ys)
 
 pub rows-three : (c : Counts) (count : ℕ) (t : List ℕ) (A : List Automaton) (S : List State) (r1 r2 : List ℕ)
-  → times (c .automata) 2 (automaton-lines c) 6 t ≡ Ok (A, r1) → times (c .states) 1 (state-lines c) (6 + 2 * c .automata) r1 ≡ Ok (S, r2)
-  → rows c count 6 t ≡ paired A (paired S (times count 7 (transition-lines c) (6 + 2 * c .automata + c .states) r2))
+    → times (c .automata) 2 (automaton-lines c) 6 t ≡ Ok (A, r1) → times (c .states) 1 (state-lines c) (6 + 2 * c .automata) r1 ≡ Ok (S, r2)
+    → rows c count 6 t ≡ paired A (paired S (times count 7 (transition-lines c) (6 + 2 * c .automata + c .states) r2))
 rows-three c count t A S r1 r2 a s =
     both-step (2 * c .automata) (times (c .automata) 2 (automaton-lines c)) (λ _. both (c .states) (times (c .states) 1 (state-lines c)) (λ _. times count 7 (transition-lines c))) 6 t A r1 a
     ∙ ap (paired A) (both-step (c .states) (times (c .states) 1 (state-lines c)) (λ _. times count 7 (transition-lines c)) (6 + 2 * c .automata) r1 S r2 s)
 
 -- the last of the three kinds of rows decides
 pub filled : (x : Result (Rows × List ℕ) TextFault) (before after : Drawing) (w : Result (List TransitionPlan × List ℕ) TextFault)
-  → x ≡ paired (items (after .automata)) (paired (items (after .states)) w) → items (before .transitions) ≡ [] → after .name ≡ before .name → after .events ≡ before .events
-  → (r : Result (RefT (List ℕ)) TextFault)
-  → Cases r (λ rest. rows-behind (map transition-plan (items (before .transitions))) w ≡ Ok (map transition-plan (items (after .transitions)), rest .now))
-      (λ f. rows-behind (map transition-plan (items (before .transitions))) w ≡ Err f)
-  → Filled x before after r
+    → x ≡ paired (items (after .automata)) (paired (items (after .states)) w) → items (before .transitions) ≡ [] → after .name ≡ before .name → after .events ≡ before .events
+    → (r : Result (RefT (List ℕ)) TextFault)
+    → Rows-give (rows-behind (map transition-plan (items (before .transitions))) w) (map transition-plan (items (after .transitions))) r
+    → Filled x before after r
 filled x before after w e none n v (Ok rest) h = record {
-    answer = e ∙ ap (λ w. paired (items (after .automata)) (paired (items (after .states)) w)) (fresh transition-plan (items (before .transitions)) w _ none h);
-    name = n; events = v }
+  answer = e ∙ ap (λ w. paired (items (after .automata)) (paired (items (after .states)) w)) (fresh transition-plan (items (before .transitions)) w _ none h);
+  name = n;
+  events = v;
+}
 filled x before after w e none n v (Err f) h = e ∙ ap (λ w. paired (items (after .automata)) (paired (items (after .states)) w)) (fresh transition-plan (items (before .transitions)) w _ none h)
 
 -- ---- the head
@@ -91,19 +91,19 @@ module _ (t r1 r2 r3 r4 r5 : List ℕ) (n : List ℕ) (e a s : Positive) (k : Na
   drawn-head : drawn 1 t ≡ and-then (paired n (paired e (paired a (paired s (paired k (rows (counted e a s) (k .0) 6 r5)))))) (λ x. Ok (plan (x .0), x .1))
   drawn-head =
       ap (λ w. and-then w (λ x. Ok (plan (x .0), x .1)))
-        (both-step 1 (field name-of (key-text key.the-variants.Chart)) (λ _. from-events) 1 t n r1 (ap in-text h1) ∙ ap (paired n)
-          (both-step 1 (one positive-kind 65 key.the-variants.Events) from-automata 2 r1 e r2 (ap in-text h2) ∙ ap (paired e)
-            (both-step 1 (one positive-kind 25 key.the-variants.Automata) (from-states e) 3 r2 a r3 (ap in-text h3) ∙ ap (paired a)
-              (both-step 1 (one positive-kind 65 key.the-variants.States) (from-transitions e a) 4 r3 s r4 (ap in-text h4) ∙ ap (paired s)
-                (both-step 1 (one natural-kind 97 key.the-variants.Transitions) (λ k. rows (counted e a s) (k .0)) 5 r4 k r5 (ap in-text h5))))))
+      (both-step 1 (field name-of (key-text key.the-variants.Chart)) (λ _. from-events) 1 t n r1 (ap in-text h1) ∙ ap (paired n)
+      (both-step 1 (one positive-kind 65 key.the-variants.Events) from-automata 2 r1 e r2 (ap in-text h2) ∙ ap (paired e)
+      (both-step 1 (one positive-kind 25 key.the-variants.Automata) (from-states e) 3 r2 a r3 (ap in-text h3) ∙ ap (paired a)
+      (both-step 1 (one positive-kind 65 key.the-variants.States) (from-transitions e a) 4 r3 s r4 (ap in-text h4) ∙ ap (paired s)
+      (both-step 1 (one natural-kind 97 key.the-variants.Transitions) (λ k. rows (counted e a s) (k .0)) 5 r4 k r5 (ap in-text h5))))))
 
   pub drawn-done : (before after : Drawing) (rest : List ℕ) → Rows-read (rows (counted e a s) (k .0) 6 r5) before after rest
-    → items (before .name .bytes) ≡ n → before .events ≡ e .0 → drawn 1 t ≡ Ok (plan-of after, rest)
+      → items (before .name .bytes) ≡ n → before .events ≡ e .0 → drawn 1 t ≡ Ok (plan-of after, rest)
   drawn-done before after rest h name events =
       drawn-head
       ∙ ap (λ w. and-then (paired n (paired e (paired a (paired s (paired k w))))) (λ x. Ok (plan (x .0), x .1))) (h .answer)
       ∙ ap₂ (λ n v. Ok (record { name = n; events = v; automata = rows-in after .0; states = rows-in after .1 .0; transitions = rows-in after .1 .1 }, rest))
-          (sym (ap (λ d. items (d .bytes)) (h .name) ∙ name)) (sym (h .events ∙ events))
+      (sym (ap (λ d. items (d .bytes)) (h .name) ∙ name)) (sym (h .events ∙ events))
 
 -- ---- the end
 

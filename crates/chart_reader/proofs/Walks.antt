@@ -83,20 +83,30 @@ clear-append c (k ∷ ks) js n s a b =
 
 broken-left : (c : Counts) (ks js : List Key) (n : ℕ) (s : List ℕ) (e : TextFault) → Broken c ks n s e → Broken c (ks ++ js) n s e
 broken-left c ks js n s e b = record {
-    before = b .before; due = b .due; after = b .after ++ js; fault = b .fault;
-    split = ap (λ xs. xs ++ js) (b .split) ∙ append-assoc (b .before) (b .due ∷ b .after) js;
-    right = b .right; wrong = b .wrong; is = b .is }
+  before = b .before;
+  due = b .due;
+  after = b .after ++ js;
+  fault = b .fault;
+  split = ap (λ xs. xs ++ js) (b .split) ∙ append-assoc (b .before) (b .due ∷ b .after) js;
+  right = b .right;
+  wrong = b .wrong;
+  is = b .is;
+}
 
 broken-right : (c : Counts) (ks js : List Key) (n : ℕ) (s : List ℕ) (e : TextFault) → Clear c ks n s → Broken c js (n + length ks) (skip-lines (length ks) s) e → Broken c (ks ++ js) n s e
 broken-right c ks js n s e a b =
     let l = length-append ks (b .before) in
     let z : n + length (ks ++ b .before) ≡ n + length ks + length (b .before) = omega arith in
     record {
-      before = ks ++ b .before; due = b .due; after = b .after; fault = b .fault;
+      before = ks ++ b .before;
+      due = b .due;
+      after = b .after;
+      fault = b .fault;
       split = ap (λ xs. ks ++ xs) (b .split) ∙ sym (append-assoc ks (b .before) (b .due ∷ b .after));
       right = clear-append c ks (b .before) n s a (b .right);
       wrong = ap₂ (λ m w. fault-at c (b .due) m w) z (ap (λ k. skip-lines k s) l ∙ sym (skip-add (length ks) (length (b .before)) s)) ∙ b .wrong;
-      is = b .is }
+      is = b .is;
+    }
 
 -- ---- the readers
 
@@ -109,12 +119,13 @@ module _ {A B : Type 0} (c : Counts) (m : ℕ) (p : Reader A) (q : A → Reader 
       let u = first .ok (g .0 .0) (g .0 .1) (g .1) in
       let v = second (g .0 .0) (g .0 .1) (g .1) .ok (j .0 .0) (j .0 .1) (j .1) in
       let e = ap (λ (w : (A × B) × List ℕ). w .1) (same-ok ((g .0 .0, j .0 .0), j .0 .1) (x, r) (j .2)) in
-      let z : n + m ≡ n + length ks = ap (λ k. n + k) (sym size) in
-      (clear-append c ks js n s (u .0) (subst (λ w. Clear c js w (skip-lines (length ks) s)) z (subst (Clear c js (n + m)) (u .1) (v .0))),
-       sym e ∙ v .1 ∙ ap (skip-lines (length js)) (u .1) ∙ skip-add (length ks) (length js) s ∙ ap (λ k. skip-lines k s) (sym (length-append ks js)))
+      let z : n + m ≡ n + length ks = ap (λ k. n + k) (sym size) in (
+        clear-append c ks js n s (u .0) (subst (λ w. Clear c js w (skip-lines (length ks) s)) z (subst (Clear c js (n + m)) (u .1) (v .0))),
+        sym e ∙ v .1 ∙ ap (skip-lines (length js)) (u .1) ∙ skip-add (length ks) (length js) s ∙ ap (λ k. skip-lines k s) (sym (length-append ks js)),
+      )
 
   both-err : (r : Result (A × List ℕ) TextFault) → p n s ≡ r → (e : TextFault)
-    → and-then {B = (A × B) × List ℕ} r (λ y. and-then (q (y .0) (n + m) (y .1)) (λ z. Ok ((y .0, z .0), z .1))) ≡ Err e → Broken c (ks ++ js) n s e
+      → and-then {B = (A × B) × List ℕ} r (λ y. and-then (q (y .0) (n + m) (y .1)) (λ z. Ok ((y .0, z .0), z .1))) ≡ Err e → Broken c (ks ++ js) n s e
   both-err (Err f) x e h = let y : f ≡ e = cc in broken-left c ks js n s e (first .err e (x ∙ ap (λ z. Err z) y))
   both-err (Ok y) x e h =
       let u = first .ok (y .0) (y .1) x in
@@ -131,11 +142,12 @@ module _ {A B : Type 0} (c : Counts) (m : ℕ) (p : Reader A) (q : A → Reader 
 
 pub named-walks : {A B : Type 0} (c : Counts) (f : A → B) (p : Reader A) (ks : List Key) (n : ℕ) (s : List ℕ) → Walks c p ks n s → Walks c (named f p) ks n s
 named-walks {A} {B} c f p ks n s w = record {
-    ok = λ b r h.
+  ok = λ b r h.
       let g = then-ok (p n s) (λ x. Ok (f (x .0), x .1)) (b, r) h in
       let e = ap (λ (w : B × List ℕ). w .1) (same-ok (f (g .0 .0), g .0 .1) (b, r) (g .2)) in
       let u = w .ok (g .0 .0) (g .0 .1) (g .1) in (u .0, sym e ∙ u .1);
-    err = λ e h. w .err e (inner (p n s) e h) }
+  err = λ e h. w .err e (inner (p n s) e h);
+}
   where
     inner : (r : Result (A × List ℕ) TextFault) (e : TextFault) → and-then {B = B × List ℕ} r (λ x. Ok (f (x .0), x .1)) ≡ Err e → r ≡ Err e
     inner (Ok x) e h = absurd (let y : _≡_ {A = ℕ} 0 1 = cc in omega arith)
@@ -146,17 +158,17 @@ abbrev pair-up : {A : Type 0} → A × List A → List A
 pair-up x = x .0 ∷ x .1
 
 regroup : {A : Type 0} (m : ℕ) (p : Reader A) (q : Reader (List A)) (n : ℕ) (s : List ℕ)
-  → named pair-up (both m p (λ _. q)) n s ≡ and-then (p n s) (λ x. and-then (q (n + m) (x .1)) (λ y. Ok (x .0 ∷ y .0, y .1)))
+    → named pair-up (both m p (λ _. q)) n s ≡ and-then (p n s) (λ x. and-then (q (n + m) (x .1)) (λ y. Ok (x .0 ∷ y .0, y .1)))
 regroup {A} m p q n s = outer (p n s)
   where
     inner : (x : A × List ℕ) (r : Result (List A × List ℕ) TextFault)
-      → and-then {A = (A × List A) × List ℕ} {B = List A × List ℕ} (and-then r (λ y. Ok ((x .0, y .0), y .1))) (λ z. Ok (pair-up (z .0), z .1))
+        → and-then {A = (A × List A) × List ℕ} {B = List A × List ℕ} (and-then r (λ y. Ok ((x .0, y .0), y .1))) (λ z. Ok (pair-up (z .0), z .1))
         ≡ and-then r (λ y. Ok (x .0 ∷ y .0, y .1))
     inner x (Ok y) = refl
     inner x (Err f) = refl
 
     outer : (r : Result (A × List ℕ) TextFault)
-      → and-then {A = (A × List A) × List ℕ} {B = List A × List ℕ} (and-then r (λ x. and-then (q (n + m) (x .1)) (λ y. Ok ((x .0, y .0), y .1)))) (λ z. Ok (pair-up (z .0), z .1))
+        → and-then {A = (A × List A) × List ℕ} {B = List A × List ℕ} (and-then r (λ x. and-then (q (n + m) (x .1)) (λ y. Ok ((x .0, y .0), y .1)))) (λ z. Ok (pair-up (z .0), z .1))
         ≡ and-then r (λ x. and-then (q (n + m) (x .1)) (λ y. Ok (x .0 ∷ y .0, y .1)))
     outer (Ok x) = inner x (q (n + m) (x .1))
     outer (Err f) = refl
@@ -165,19 +177,20 @@ walks-same : {A : Type 0} (c : Counts) (p q : Reader A) (ks : List Key) (n : ℕ
 walks-same c p q ks n s e w = record { ok = λ a r h. w .ok a r (e ∙ h); err = λ f h. w .err f (e ∙ h) }
 
 pub times-walks : {A : Type 0} (c : Counts) (m : ℕ) (p : Reader A) (ks : List Key) → length ks ≡ m → ((n : ℕ) (s : List ℕ) → Walks c p ks n s)
-  → (count n : ℕ) (s : List ℕ) → Walks c (times count m p) (repeated count ks) n s
+    → (count n : ℕ) (s : List ℕ) → Walks c (times count m p) (repeated count ks) n s
 times-walks {A} c m p ks size each zero n s = record {
-    ok = λ xs r h. (tt, sym (ap (λ (w : List A × List ℕ). w .1) (same-ok ([], s) (xs, r) h)));
-    err = λ e h. absurd (let y : _≡_ {A = ℕ} 0 1 = cc in omega arith) }
+  ok = λ xs r h. (tt, sym (ap (λ (w : List A × List ℕ). w .1) (same-ok ([], s) (xs, r) h)));
+  err = λ e h. absurd (let y : _≡_ {A = ℕ} 0 1 = cc in omega arith);
+}
 times-walks c m p ks size each (suc count) n s =
     walks-same c (named pair-up (both m p (λ _. times count m p))) (times (suc count) m p) (ks ++ repeated count ks) n s (regroup m p (times count m p) n s)
-      (named-walks c pair-up (both m p (λ _. times count m p)) (ks ++ repeated count ks) n s
-        (both-walks c m p (λ _. times count m p) ks (repeated count ks) n s size (each n s) (λ a r h. times-walks c m p ks size each count (n + m) r)))
+    (named-walks c pair-up (both m p (λ _. times count m p)) (ks ++ repeated count ks) n s
+    (both-walks c m p (λ _. times count m p) ks (repeated count ks) n s size (each n s) (λ a r h. times-walks c m p ks size each count (n + m) r)))
 
 -- ---- one line
 
 line-fault : {A : Type 0} (n : ℕ) (f : List ℕ → Result A ElementFault) (r : Result (List ℕ × List ℕ) LineFault)
-  → fault-of (and-then r (λ p. in-line n (p .1) (f (p .0)))) ≡ faulty n r (λ v. fault-of (f v))
+    → fault-of (and-then r (λ p. in-line n (p .1) (f (p .0)))) ≡ faulty n r (λ v. fault-of (f v))
 line-fault n f (Err g) = refl
 line-fault {A} n f (Ok p) = one (f (p .0))
   where
@@ -190,19 +203,27 @@ in-text-fault (Ok y) e h = absurd (let z : _≡_ {A = ℕ} 0 1 = cc in omega ari
 in-text-fault (Err f) e h = (f, refl, cc)
 
 pub field-walks : {A : Type 0} (c : Counts) (f : List ℕ → Result A ElementFault) (k : Key) → ((v : List ℕ) → value-fault c k v ≡ fault-of (f v))
-  → (n : ℕ) (s : List ℕ) → Walks c (field f (key-text k)) (k ∷ []) n s
+    → (n : ℕ) (s : List ℕ) → Walks c (field f (key-text k)) (k ∷ []) n s
 field-walks c f k same n s = record {
-    ok = λ a r h.
-      let g = field-parts f (key-text k) n s a r h in
-      ((ap (λ w. faulty n w (value-fault c k)) (g .1) ∙ ap (mapped (λ e. Element n e)) (same (g .0 .0) ∙ ap fault-of (g .2)), tt),
-        sym (g .3) ∙ line-rest (key-text k) n s (g .0) (g .1));
-    err = λ e h.
+  ok = λ a r h.
+      let g = field-parts f (key-text k) n s a r h in (
+        (ap (λ w. faulty n w (value-fault c k)) (g .1) ∙ ap (mapped (λ e. Element n e)) (same (g .0 .0) ∙ ap fault-of (g .2)), tt),
+        sym (g .3) ∙ line-rest (key-text k) n s (g .0) (g .1),
+      );
+  err = λ e h.
       let x = in-text-fault (value-at f (key-text k) n s) e h in
       let z : n + 0 ≡ n = omega arith in
       record {
-        before = []; due = k; after = []; fault = x .0; split = refl; right = tt;
+        before = [];
+        due = k;
+        after = [];
+        fault = x .0;
+        split = refl;
+        right = tt;
         wrong = ap (λ m. fault-at c k m s) z ∙ faulty-same (line-at (key-text k) n s) ∙ sym (line-fault n f (line-at (key-text k) n s)) ∙ x .1;
-        is = x .2 } }
+        is = x .2;
+      };
+}
   where
     faulty-same : (r : Result (List ℕ × List ℕ) LineFault) → faulty n r (value-fault c k) ≡ faulty n r (λ v. fault-of (f v))
     faulty-same (Ok p) = ap (mapped (λ e. Element n e)) (same (p .0))

@@ -117,9 +117,9 @@ pub record Goes-on (c : Counts) (ks : List Key) (s : List ℕ) (n : ℕ) : Type 
 pub record Refused (t : List ℕ) : Type 0 where
   pub oversize : (verdict t ≡ Err Oversize → 16384 < length t) × (16384 < length t → verdict t ≡ Err Oversize)
   pub in-a-line : (f : LineFault) → (verdict t ≡ Err (Line f) → (length t ≤ 16384) × First-wrong (counts-in t) (keys-in t) t f)
-    × ((length t ≤ 16384) × First-wrong (counts-in t) (keys-in t) t f → verdict t ≡ Err (Line f))
+      × ((length t ≤ 16384) × First-wrong (counts-in t) (keys-in t) t f → verdict t ≡ Err (Line f))
   pub trailing : (n : ℕ) → (verdict t ≡ Err (Trailing n) → (length t ≤ 16384) × Goes-on (counts-in t) (keys-in t) t n)
-    × ((length t ≤ 16384) × Goes-on (counts-in t) (keys-in t) t n → verdict t ≡ Err (Trailing n))
+      × ((length t ≤ 16384) × Goes-on (counts-in t) (keys-in t) t n → verdict t ≡ Err (Trailing n))
 
 abbrev pub Refusals : Type 0
 Refusals = (t : List ℕ) → Refused t

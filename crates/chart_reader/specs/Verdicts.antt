@@ -11,7 +11,7 @@
 --     Gives-back         the spelling of what was accepted is the text
 --     One-text           no two texts are accepted with one plan
 use mathlib.Core.Bool.{cond}
-use mathlib.Core.List.{List, []}
+use mathlib.Core.List.{List, [], map}
 use mathlib.Core.Path.{_≡_}
 use Prim.Native.Nat.{ℕ, _+_, _*_, _≤_}
 use lib.Dec.{leb}
@@ -19,7 +19,7 @@ use lib.ListN.{length}
 use Rattle.std.specs.declared.result.Result.{Result}
 use Rattle.std.specs.declared.result.Result.the-variants.{Ok, Err}
 use Rattle.format.specs.Elements.{and-then, single-of, list-of, Kind}
-use Rattle.format.specs.Readers.{Reader, field, both, times, named, ended}
+use Rattle.format.specs.Readers.{Reader, field, both, times, rows-behind, named, ended}
 use Rattle.format.specs.declared.fault.TextFault.{TextFault}
 use Rattle.format.specs.declared.fault.TextFault.the-variants.{Oversize}
 use Rattle.chart.specs.declared.id.StateId.{StateId}
@@ -49,6 +49,14 @@ abbrev pub Gives : {A V F : Type 0} → (V → A) → Result (A × List ℕ) F �
 Gives said x (Ok v) = x ≡ Ok (said (v .item), v .rest .now)
 Gives said x (Err f) = x ≡ Err f
 
+-- rows read behind those that are there
+abbrev pub more-rows : {X A : Type 0} → (X → A) → ℕ → Reader A → List X → ℕ → ℕ → List ℕ → Result (List A × List ℕ) TextFault
+more-rows said lines p before count n t = rows-behind (map said before) (times count lines p n t)
+
+abbrev pub Rows-give : {A : Type 0} → Result (List A × List ℕ) TextFault → List A → Result (RefT (List ℕ)) TextFault → Type 0
+Rows-give x after (Ok rest) = x ≡ Ok (after, rest .now)
+Rows-give x after (Err f) = x ≡ Err f
+
 abbrev pub one : {E : Type 0} → Kind E → ℕ → Key → Reader E
 one k limit name = field (single-of k limit) (key-text name)
 
@@ -72,8 +80,14 @@ TransitionParts = StateId × (List StateId × (EventId × (List Term × (List Ev
 
 abbrev pub transition : TransitionParts → TransitionPlan
 transition x = record {
-    source = x .0; restriction = x .1 .0; trigger = x .1 .1 .0; guard = x .1 .1 .1 .0; actions = x .1 .1 .1 .1 .0;
-    target = x .1 .1 .1 .1 .1 .0; determinator = x .1 .1 .1 .1 .1 .1 }
+  source = x .0;
+  restriction = x .1 .0;
+  trigger = x .1 .1 .0;
+  guard = x .1 .1 .1 .0;
+  actions = x .1 .1 .1 .1 .0;
+  target = x .1 .1 .1 .1 .1 .0;
+  determinator = x .1 .1 .1 .1 .1 .1;
+}
 
 abbrev pub transition-lines : Counts → Reader TransitionPlan
 transition-lines c = named transition (

@@ -16,7 +16,7 @@ use format::value::Value;
 
 // A value that was read, and the rest of the text.
 #[derive(Clone, Copy)]
-pub struct Read<'a, V> {
+pub(super) struct Read<'a, V> {
     pub item: V,
     pub rest: &'a [u8],
 }
@@ -32,7 +32,12 @@ fn on_line<V: Copy>(line: u16, read: Result<V, ElementFault>) -> Result<V, (u16,
 }
 
 // The value of the first line of the text, which is line `number` and has to have the key that is due.
-pub fn field<'a, V: Value>(key: Key, limit: u8, number: u16, text: &'a [u8]) -> Result<Read<'a, V>, LineFault>
+pub(super) fn field<'a, V: Value>(
+    key: Key,
+    limit: u8,
+    number: u16,
+    text: &'a [u8],
+) -> Result<Read<'a, V>, LineFault>
     ensures { λ r. ⌜ Gives said (value-at (reads limit) (key-text key) number (now (text .entry))) r ⌝ }
 {
     let Front { line, rest } = due_line(key, number, text)?;

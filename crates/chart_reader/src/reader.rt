@@ -53,14 +53,24 @@ fn blank(name: Name, events: u8) -> Drawing
     Drawing {
         name,
         events,
-        automata: ArrayVec::new(Automaton { parent: Parent::Top, initial: state }),
-        states: ArrayVec::new(State { automaton: AutomatonId(0) }),
+        automata: ArrayVec::new(Automaton {
+            parent: Parent::Top,
+            initial: state,
+        }),
+        states: ArrayVec::new(State {
+            automaton: AutomatonId(0),
+        }),
         transitions: ArrayVec::new(transition),
     }
 }
 
 // The rows that are counted, into a blank drawing; and the rest of the text.
-fn fill<'a>(drawing: &mut Drawing, counts: Counts, count: u8, text: &'a [u8]) -> Result<&'a [u8], TextFault>
+fn fill<'a>(
+    drawing: &mut Drawing,
+    counts: Counts,
+    count: u8,
+    text: &'a [u8],
+) -> Result<&'a [u8], TextFault>
     requires empty { ⌜ Blank (now drawing) ⌝ }
     requires room { ⌜ Fitting counts count ⌝ }
     ensures { λ r. ⌜ Filled (rows counts count 6 (now (text .entry))) (now (drawing .entry)) (now (drawing .exit)) r ⌝ }
@@ -76,7 +86,10 @@ fn fill<'a>(drawing: &mut Drawing, counts: Counts, count: u8, text: &'a [u8]) ->
 fn end_line(drawing: &Drawing) -> u16
     ensures { λ r. ⌜ r ≡ due-end (plan-of (now (drawing .entry))) ⌝ }
 {
-    6 + 2 * drawing.automata.len() as u16 + drawing.states.len() as u16 + 7 * drawing.transitions.len() as u16
+    6
+        + 2 * drawing.automata.len() as u16
+        + drawing.states.len() as u16
+        + 7 * drawing.transitions.len() as u16
 }
 
 // The drawing of a text that is not too long, or its first fault.
@@ -88,13 +101,24 @@ fn draw(text: &[u8]) -> Result<Drawing, TextFault>
     let automata = field::<Single<Positive>>(Key::Automata, 25, 3, events.rest)?;
     let states = field::<Single<Positive>>(Key::States, 65, 4, automata.rest)?;
     let transitions = field::<Single<Natural>>(Key::Transitions, 97, 5, states.rest)?;
-    let counts = Counts { events: events.item.item.0, automata: automata.item.item.0, states: states.item.item.0 };
+    let counts = Counts {
+        events: events.item.item.0,
+        automata: automata.item.item.0,
+        states: states.item.item.0,
+    };
     let mut drawing = blank(name.item, counts.events);
-    let rest = fill(&mut drawing, counts, transitions.item.item.0, transitions.rest)?;
+    let rest = fill(
+        &mut drawing,
+        counts,
+        transitions.item.item.0,
+        transitions.rest,
+    )?;
     if rest.is_empty() {
         Ok(drawing)
     } else {
-        Err(TextFault::Trailing { line: end_line(&drawing) })
+        Err(TextFault::Trailing {
+            line: end_line(&drawing),
+        })
     }
 }
 

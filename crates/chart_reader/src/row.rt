@@ -3,15 +3,13 @@ ghost use mathlib.Core.Path.{_≡_};
 ghost use mathlib.Core.List.{List, map};
 ghost use Prim.Native.Nat.{ℕ, _+_, _*_, _<_, _≤_};
 ghost use lib.ListN.{length};
-ghost use Rattle.std.specs.Results.{Cases};
-ghost use Rattle.std.specs.declared.result.Result.the-variants.{Ok, Err};
 ghost use Rattle.fixed.specs.Items.{items, most};
-ghost use Rattle.format.specs.Readers.{Reader, times, rows-behind};
+ghost use Rattle.format.specs.Readers.{Reader};
 ghost use Rattle.chart.specs.Plans.{TransitionPlan, transition-plan};
 ghost use Rattle.chart_text.specs.declared.count.Counts.{Counts};
 ghost use Rattle.chart.specs.declared.drawing.Automaton.{Automaton};
 ghost use Rattle.chart.specs.declared.drawing.State.{State};
-ghost use Rattle.chart_reader.specs.Verdicts.{Gives, automaton-lines, state-lines, transition-lines};
+ghost use Rattle.chart_reader.specs.Verdicts.{Gives, more-rows, Rows-give, automaton-lines, state-lines, transition-lines};
 use super::field::Read;
 use super::field::field;
 use chart::drawing::Automaton;
@@ -41,71 +39,135 @@ use format::value::Single;
 use format::value::SingleValue;
 
 // Some lines that are read together.
-pub trait Row: Copy {
+pub(super) trait Row: Copy {
     ghost Said: { Type 0 };
+
     ghost said: { Self → Said };
+
     ghost lines: { ℕ };
+
     ghost reads: { Counts → Reader Said };
 
     fn line_count() -> u16
         ensures { λ r. ⌜ (r ≡ lines) × (r ≤ 8) ⌝ };
 
-    fn read_row<'a>(counts: Counts, number: u16, text: &'a [u8]) -> Result<Read<'a, Self>, TextFault>
+    fn read_row<'a>(
+        counts: Counts,
+        number: u16,
+        text: &'a [u8],
+    ) -> Result<Read<'a, Self>, TextFault>
         requires { ⌜ number < 60000 ⌝ }
         ensures { λ r. ⌜ Gives said (reads counts number (now (text .entry))) r ⌝ };
 }
 
-pub impl Row for Automaton as AutomatonRow {
+pub(super) impl Row for Automaton as AutomatonRow {
     ghost Said = { Automaton };
+
     ghost said = { λ a. a };
+
     ghost lines = { 2 };
+
     ghost reads = { automaton-lines };
 
     fn line_count() -> u16 {
         2
     }
 
-    fn read_row<'a>(counts: Counts, number: u16, text: &'a [u8]) -> Result<Read<'a, Self>, TextFault> {
+    fn read_row<'a>(
+        counts: Counts,
+        number: u16,
+        text: &'a [u8],
+    ) -> Result<Read<'a, Self>, TextFault> {
         let parent = field::<Single<Parent>>(Key::Under, counts.states, number, text)?;
         let initial = field::<Single<StateId>>(Key::First, counts.states, number + 1, parent.rest)?;
-        Ok(Read { item: Automaton { parent: parent.item.item, initial: initial.item.item }, rest: initial.rest })
+        Ok(Read {
+            item: Automaton {
+                parent: parent.item.item,
+                initial: initial.item.item,
+            },
+            rest: initial.rest,
+        })
     }
 }
 
-pub impl Row for State as StateRow {
+pub(super) impl Row for State as StateRow {
     ghost Said = { State };
+
     ghost said = { λ s. s };
+
     ghost lines = { 1 };
+
     ghost reads = { state-lines };
 
     fn line_count() -> u16 {
         1
     }
 
-    fn read_row<'a>(counts: Counts, number: u16, text: &'a [u8]) -> Result<Read<'a, Self>, TextFault> {
+    fn read_row<'a>(
+        counts: Counts,
+        number: u16,
+        text: &'a [u8],
+    ) -> Result<Read<'a, Self>, TextFault> {
         let automaton = field::<Single<AutomatonId>>(Key::In, counts.automata, number, text)?;
-        Ok(Read { item: State { automaton: automaton.item.item }, rest: automaton.rest })
+        Ok(Read {
+            item: State {
+                automaton: automaton.item.item,
+            },
+            rest: automaton.rest,
+        })
     }
 }
 
-pub impl Row for Transition as TransitionRow {
+pub(super) impl Row for Transition as TransitionRow {
     ghost Said = { TransitionPlan };
+
     ghost said = { transition-plan };
+
     ghost lines = { 7 };
+
     ghost reads = { transition-lines };
 
     fn line_count() -> u16 {
         7
     }
 
-    fn read_row<'a>(counts: Counts, number: u16, text: &'a [u8]) -> Result<Read<'a, Self>, TextFault> {
+    fn read_row<'a>(
+        counts: Counts,
+        number: u16,
+        text: &'a [u8],
+    ) -> Result<Read<'a, Self>, TextFault> {
         let source = field::<Single<StateId>>(Key::From, counts.states, number, text)?;
-        let restriction = field::<ArrayVec<StateId, MOST_RESTRICTIONS>>(Key::With, counts.states, number + 1, source.rest)?;
-        let trigger = field::<Single<EventId>>(Key::On, counts.events, number + 2, restriction.rest)?;
-        let guard = field::<ArrayVec<Term, MOST_TERMS>>(Key::If, counts.states, number + 3, trigger.rest)?;
-        let actions = field::<ArrayVec<EventId, MOST_ACTIONS>>(Key::Do, counts.events, number + 4, guard.rest)?;
+        let restriction = field::<ArrayVec<StateId, MOST_RESTRICTIONS>>(
+            Key::With,
+            counts.states,
+            number + 1,
+            source.rest,
+        )?;
+        let trigger = field::<Single<EventId>>(
+            Key::On,
+            counts.events,
+            number + 2,
+            restriction.rest,
+        )?;
+        let guard = field::<ArrayVec<Term, MOST_TERMS>>(
+            Key::If,
+            counts.states,
+            number + 3,
+            trigger.rest,
+        )?;
+        let actions = field::<ArrayVec<EventId, MOST_ACTIONS>>(
+            Key::Do,
+            counts.events,
+            number + 4,
+            guard.rest,
+        )?;
         let target = field::<Single<StateId>>(Key::To, counts.states, number + 5, actions.rest)?;
-        let determinator = field::<ArrayVec<StateId, MOST_DETERMINATORS>>(Key::Into, counts.states, number + 6, target.rest)?;
+        let determinator = field::<ArrayVec<StateId, MOST_DETERMINATORS>>(
+            Key::Into,
+            counts.states,
+            number + 6,
+            target.rest,
+        )?;
         Ok(Read {
             item: Transition {
                 source: source.item.item,
@@ -122,7 +184,7 @@ pub impl Row for Transition as TransitionRow {
 }
 
 // As many rows as the count says, behind those that are there; and the rest of the text.
-pub fn read_rows<'a, R: Row, const N: usize>(
+pub(super) fn read_rows<'a, R: Row, const N: usize>(
     rows: &mut ArrayVec<R, N>,
     counts: Counts,
     number: u16,
@@ -131,7 +193,7 @@ pub fn read_rows<'a, R: Row, const N: usize>(
 ) -> Result<&'a [u8], TextFault>
     requires room { ⌜ length (items (now rows)) + count ≤ most N ⌝ }
     requires lines { ⌜ number + 8 * count < 60000 ⌝ }
-    ensures { λ r. ⌜ Cases r (λ rest. rows-behind (map said (items (now (rows .entry)))) (times count lines (reads counts) number (now (text .entry))) ≡ Ok (map said (items (now (rows .exit))), now rest)) (λ f. rows-behind (map said (items (now (rows .entry)))) (times count lines (reads counts) number (now (text .entry))) ≡ Err f) ⌝ }
+    ensures { λ r. ⌜ Rows-give (more-rows said lines (reads counts) (items (now (rows .entry))) count number (now (text .entry))) (map said (items (now (rows .exit)))) r ⌝ }
 {
     let mut rest = text;
     let mut at = number;

@@ -11,7 +11,7 @@ use Rattle.chart_text.specs.Counts.{positive-no, natural-no, positive-kind, na
 pub positive-exact : Spells positive-kind 2
 positive-exact =
     numbered-exact positive-no (λ c. c .0) _ _ (λ n. refl) (λ c. refl)
-      (λ limit l c h. omega (arith, ltb-true (c .0) limit (and-parts (leb 1 (c .0)) (ltb (c .0) limit) h .1)))
+    (λ limit l c h. omega (arith, ltb-true (c .0) limit (and-parts (leb 1 (c .0)) (ltb (c .0) limit) h .1)))
 
 pub natural-exact : Spells natural-kind 2
 natural-exact = numbered-exact natural-no (λ c. c .0) _ _ (λ n. refl) (λ c. refl) (λ limit l c h. omega (arith, ltb-true (c .0) limit h))

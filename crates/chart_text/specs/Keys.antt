@@ -1,9 +1,15 @@
 -- The keys of a chart text, as they are written, and what a line of one borrows. Assumes nothing.
 --     key-text k         the key and the sign behind it
 --     due-key, due-value the key of a read line, and its value
+--     Due-gives k n x r  r is line n with the key k, its value and the rest of the text those of x, or x's fault
 use mathlib.Core.List.{List}
+use mathlib.Core.Path.{_≡_}
 use Prim.Native.Nat.{ℕ}
 use lib.Chars.{codes}
+use Rattle.std.specs.declared.result.Result.{Result}
+use Rattle.std.specs.declared.result.Result.the-variants.{Ok, Err}
+use Rattle.format.specs.declared.fault.LineFault.{LineFault}
+use Rattle.chart_text.specs.declared.line.Front.{Front}
 use Rattle.chart_text.specs.declared.line.Key.{Key}
 use Rattle.chart_text.specs.declared.line.Key as key
 use Rattle.chart_text.specs.declared.line.Due.{Due}
@@ -59,3 +65,12 @@ due-value (due.the-variants.If v) = v .now
 due-value (due.the-variants.Do v) = v .now
 due-value (due.the-variants.To v) = v .now
 due-value (due.the-variants.Into v) = v .now
+
+pub record Due-read (k : Key) (n : ℕ) (x : Result (List ℕ × List ℕ) LineFault) (f : Front) : Type 0 where
+  pub line : f .line .number ≡ n
+  pub named : due-key (f .line .due) ≡ k
+  pub value : x ≡ Ok (due-value (f .line .due), f .rest .now)
+
+abbrev pub Due-gives : Key → ℕ → Result (List ℕ × List ℕ) LineFault → Result Front LineFault → Type 0
+Due-gives k n x (Ok f) = Due-read k n x f
+Due-gives k n x (Err e) = x ≡ Err e

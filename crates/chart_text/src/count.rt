@@ -24,6 +24,7 @@ pub struct Natural(pub u8);
 
 pub impl Element for Positive as PositiveElement {
     ghost kind = { positive-kind };
+
     ghost wide = { 2 };
 
     fn letters(self) -> ArrayVec<u8, 4> {
@@ -49,6 +50,7 @@ pub impl Element for Positive as PositiveElement {
 
 pub impl Element for Natural as NaturalElement {
     ghost kind = { natural-kind };
+
     ghost wide = { 2 };
 
     fn letters(self) -> ArrayVec<u8, 4> {

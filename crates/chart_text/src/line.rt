@@ -1,9 +1,7 @@
 // The lines of a chart text.
 ghost use mathlib.Core.Path.{_≡_};
-ghost use Rattle.std.specs.Results.{Cases};
-ghost use Rattle.std.specs.declared.result.Result.the-variants.{Ok, Err};
 ghost use Rattle.format.specs.Readers.{line-at};
-ghost use Rattle.chart_text.specs.Keys.{key-text, due-key, due-value};
+ghost use Rattle.chart_text.specs.Keys.{key-text, due-key, due-value, Due-gives};
 use format::fault::LineFault;
 use format::line::keyed_line;
 
@@ -137,8 +135,14 @@ pub struct Front<'a> {
 
 // The first line of the text, which is line `number` and has to have the key that is due.
 pub fn due_line(key: Key, number: u16, text: &[u8]) -> Result<Front<'_>, LineFault>
-    ensures { λ r. ⌜ Cases r (λ f. (f .line .number ≡ number) × (due-key (f .line .due) ≡ key) × (line-at (key-text key) number (now (text .entry)) ≡ Ok (due-value (f .line .due), now (f .rest)))) (λ f. line-at (key-text key) number (now (text .entry)) ≡ Err f) ⌝ }
+    ensures { λ r. ⌜ Due-gives key number (line-at (key-text key) number (now (text .entry))) r ⌝ }
 {
     let parts = keyed_line(key.text(), number, text)?;
-    Ok(Front { line: Line { number, due: key.due(parts.front) }, rest: parts.rest })
+    Ok(Front {
+        line: Line {
+            number,
+            due: key.due(parts.front),
+        },
+        rest: parts.rest,
+    })
 }

@@ -4,8 +4,7 @@ ghost use mathlib.Core.List.{[], _∷_, _++_};
 ghost use Prim.Native.Nat.{_<_, _≤_};
 ghost use lib.Dec.{leb};
 ghost use lib.ListN.{length, take};
-ghost use Rattle.std.specs.Results.{Cases};
-ghost use Rattle.fixed.specs.Items.{items, most, last-of};
+ghost use Rattle.fixed.specs.Items.{items, most, last-of, Pushed};
 
 // Every value means a list, `items`: what stands in the first `len` places, or in all of them if `len` is larger.
 // So there is nothing for a caller to keep true. The places behind are filler.
@@ -20,7 +19,10 @@ impl<T: Copy, const N: usize> ArrayVec<T, N> {
     pub fn new(filler: T) -> Self
         ensures { λ r. ⌜ items r ≡ [] ⌝ }
     {
-        ArrayVec { places: [filler; N], len: 0 }
+        ArrayVec {
+            places: [filler; N],
+            len: 0,
+        }
     }
 
     // How many items there are.
@@ -29,7 +31,11 @@ impl<T: Copy, const N: usize> ArrayVec<T, N> {
         ensures bound { λ r. ⌜ r ≤ most N ⌝ }
     {
         let room = self.places[..].len();
-        if (self.len as usize) < room { self.len } else { room as u8 }
+        if (self.len as usize) < room {
+            self.len
+        } else {
+            room as u8
+        }
     }
 
     // Whether no place is left.
@@ -59,7 +65,7 @@ impl<T: Copy, const N: usize> ArrayVec<T, N> {
 
     // One item more, behind the others. Where there is no place left, the item comes back and the list stays.
     pub fn push(&mut self, item: T) -> Result<(), T>
-        ensures cases { λ r. ⌜ Cases r (λ _. (length (items (now (self .entry))) < most N) × (items (now (self .exit)) ≡ items (now (self .entry)) ++ (item ∷ []))) (λ back. (back ≡ item) × (now (self .exit) ≡ now (self .entry)) × (most N ≤ length (items (now (self .entry))))) ⌝ }
+        ensures { λ r. ⌜ Pushed (now (self .entry)) item (now (self .exit)) r ⌝ }
     {
         let at = self.len as usize;
         let room = self.places[..].len().min(u8::MAX as usize);

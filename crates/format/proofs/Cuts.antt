@@ -37,10 +37,10 @@ pub cut-to : (b : ℕ) (t : List ℕ) (p : List ℕ × List ℕ) → cut-at b t 
 cut-to b [] p h = absurd (let z : _≡_ {A = ℕ} 0 1 = cc in omega arith)
 cut-to b (x ∷ xs) p h =
     ⊎-elim
-      (λ e. let t = eq-eqb x b e in let g : Some ([], xs) ≡ Some p = rw t at h in let q : ([], xs) ≡ p = cc in ap₂ (λ y z. y ∷ z) e refl ∙ ap (λ (w : List ℕ × List ℕ). w .0 ++ (b ∷ w .1)) q)
-      (λ ne. let f = ne-eqb x b ne in let g = behind-some x (cut-at b xs) p (rw f at h) in
-        ap (λ z. x ∷ z) (cut-to b xs (g .0) (g .1)) ∙ ap (λ (w : List ℕ × List ℕ). w .0 ++ (b ∷ w .1)) (sym (g .2)))
-      (cases-eq x b)
+    (λ e. let t = eq-eqb x b e in let g : Some ([], xs) ≡ Some p = rw t at h in let q : ([], xs) ≡ p = cc in ap₂ (λ y z. y ∷ z) e refl ∙ ap (λ (w : List ℕ × List ℕ). w .0 ++ (b ∷ w .1)) q)
+    (λ ne. let f = ne-eqb x b ne in let g = behind-some x (cut-at b xs) p (rw f at h) in
+    ap (λ z. x ∷ z) (cut-to b xs (g .0) (g .1)) ∙ ap (λ (w : List ℕ × List ℕ). w .0 ++ (b ∷ w .1)) (sym (g .2)))
+    (cases-eq x b)
 
 pub cut-from : (b : ℕ) (p r : List ℕ) → Free b p → cut-at b (p ++ (b ∷ r)) ≡ Some (p, r)
 cut-from b [] r h = let t = eq-eqb b b refl in rw t
@@ -60,18 +60,18 @@ after-to [] s v h = cc
 after-to (k ∷ ks) [] v h = absurd (let z : _≡_ {A = ℕ} 0 1 = cc in omega arith)
 after-to (k ∷ ks) (x ∷ xs) v h =
     ⊎-elim
-      (λ e. let t = eq-eqb k x e in ap₂ (λ y z. y ∷ z) (sym e) (after-to ks xs v (rw t at h)))
-      (λ ne. let f = ne-eqb k x ne in let g : None ≡ Some v = rw f at h in absurd (let z : _≡_ {A = ℕ} 0 1 = cc in omega arith))
-      (cases-eq k x)
+    (λ e. let t = eq-eqb k x e in ap₂ (λ y z. y ∷ z) (sym e) (after-to ks xs v (rw t at h)))
+    (λ ne. let f = ne-eqb k x ne in let g : None ≡ Some v = rw f at h in absurd (let z : _≡_ {A = ℕ} 0 1 = cc in omega arith))
+    (cases-eq k x)
 
 pub after-none : (key s : List ℕ) → ((v : List ℕ) → s ≡ key ++ v → ⊥) → after-key key s ≡ None
 after-none [] s h = absurd (h s refl)
 after-none (k ∷ ks) [] h = refl
 after-none (k ∷ ks) (x ∷ xs) h =
     ⊎-elim
-      (λ e. let t = eq-eqb k x e in rw t (after-none ks xs (λ v g. h v (ap₂ (λ y z. y ∷ z) (sym e) g))))
-      (λ ne. let f = ne-eqb k x ne in rw f)
-      (cases-eq k x)
+    (λ e. let t = eq-eqb k x e in rw t (after-none ks xs (λ v g. h v (ap₂ (λ y z. y ∷ z) (sym e) g))))
+    (λ ne. let f = ne-eqb k x ne in rw f)
+    (cases-eq k x)
 
 -- ---- the pieces
 
@@ -79,11 +79,11 @@ pub pieces-cut : (v p r : List ℕ) → cut-at 44 v ≡ Some (p, r) → pieces v
 pieces-cut [] p r h = absurd (let z : _≡_ {A = ℕ} 0 1 = cc in omega arith)
 pieces-cut (x ∷ xs) p r h =
     ⊎-elim
-      (λ e. let t = eq-eqb x 44 e in let g : Some ([], xs) ≡ Some (p, r) = rw t at h in let q : ([], xs) ≡ (p, r) = cc in
-        rw t (ap (λ (w : List ℕ × List ℕ). w .0 ∷ pieces (w .1)) q))
-      (λ ne. let f = ne-eqb x 44 ne in let g = behind-some x (cut-at 44 xs) (p, r) (rw f at h) in
-        rw f (ap (onto x) (pieces-cut xs (g .0 .0) (g .0 .1) (g .1)) ∙ ap (λ (w : List ℕ × List ℕ). w .0 ∷ pieces (w .1)) (sym (g .2))))
-      (cases-eq x 44)
+    (λ e. let t = eq-eqb x 44 e in let g : Some ([], xs) ≡ Some (p, r) = rw t at h in let q : ([], xs) ≡ (p, r) = cc in
+    rw t (ap (λ (w : List ℕ × List ℕ). w .0 ∷ pieces (w .1)) q))
+    (λ ne. let f = ne-eqb x 44 ne in let g = behind-some x (cut-at 44 xs) (p, r) (rw f at h) in
+    rw f (ap (onto x) (pieces-cut xs (g .0 .0) (g .0 .1) (g .1)) ∙ ap (λ (w : List ℕ × List ℕ). w .0 ∷ pieces (w .1)) (sym (g .2))))
+    (cases-eq x 44)
 
 behind-none : (x : ℕ) (o : Option (List ℕ × List ℕ)) → behind x o ≡ None → o ≡ None
 behind-none x None h = refl
@@ -93,9 +93,9 @@ pub pieces-last : (v : List ℕ) → cut-at 44 v ≡ None → pieces v ≡ v ∷
 pieces-last [] h = refl
 pieces-last (x ∷ xs) h =
     ⊎-elim
-      (λ e. let t = eq-eqb x 44 e in let g : Some ([], xs) ≡ None = rw t at h in absurd (let z : _≡_ {A = ℕ} 0 1 = cc in omega arith))
-      (λ ne. let f = ne-eqb x 44 ne in rw f (ap (onto x) (pieces-last xs (behind-none x (cut-at 44 xs) (rw f at h)))))
-      (cases-eq x 44)
+    (λ e. let t = eq-eqb x 44 e in let g : Some ([], xs) ≡ None = rw t at h in absurd (let z : _≡_ {A = ℕ} 0 1 = cc in omega arith))
+    (λ ne. let f = ne-eqb x 44 ne in rw f (ap (onto x) (pieces-last xs (behind-none x (cut-at 44 xs) (rw f at h)))))
+    (cases-eq x 44)
 
 commas-onto : (x : ℕ) (ps : List (List ℕ)) → commas (onto x ps) ≡ x ∷ commas ps
 commas-onto x [] = refl
@@ -106,18 +106,18 @@ pieces-some [] = ([], [], refl)
 pieces-some (x ∷ xs) =
     let g = pieces-some xs in
     ⊎-elim
-      (λ t. ([], pieces xs, rw t refl))
-      (λ f. (x ∷ g .0, g .1, rw f (ap (onto x) (g .2))))
-      (cases-bool (eqb x 44))
+    (λ t. ([], pieces xs, rw t refl))
+    (λ f. (x ∷ g .0, g .1, rw f (ap (onto x) (g .2))))
+    (cases-bool (eqb x 44))
 
 pub commas-pieces : (v : List ℕ) → commas (pieces v) ≡ v
 commas-pieces [] = refl
 commas-pieces (x ∷ xs) =
     ⊎-elim
-      (λ t. let g = pieces-some xs in
-        rw t (ap (λ ps. joined (λ q. 44 ∷ q) ps) (g .2) ∙ ap (λ z. 44 ∷ z) (ap commas (sym (g .2)) ∙ commas-pieces xs) ∙ ap (λ y. y ∷ xs) (sym (eqb-true x 44 t))))
-      (λ f. rw f (commas-onto x (pieces xs) ∙ ap (λ z. x ∷ z) (commas-pieces xs)))
-      (cases-bool (eqb x 44))
+    (λ t. let g = pieces-some xs in
+    rw t (ap (λ ps. joined (λ q. 44 ∷ q) ps) (g .2) ∙ ap (λ z. 44 ∷ z) (ap commas (sym (g .2)) ∙ commas-pieces xs) ∙ ap (λ y. y ∷ xs) (sym (eqb-true x 44 t))))
+    (λ f. rw f (commas-onto x (pieces xs) ∙ ap (λ z. x ∷ z) (commas-pieces xs)))
+    (cases-bool (eqb x 44))
 
 pub free-none : (b : ℕ) (p : List ℕ) → Free b p → cut-at b p ≡ None
 free-none b [] h = refl

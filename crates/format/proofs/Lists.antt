@@ -47,7 +47,7 @@ put-behind acc e (Err f) = refl
 module _ {E : Type 0} (k : Kind E) (most : ℕ) where
   -- where there is room and the shape is right, the place decides: t
   pub formed-at : (i : ℕ) (before : Option E) (p : List ℕ) (e : E) (t : Bool) → leb most i ≡ false → k .shape p ≡ Some e → t ≡ follows k before e
-    → formed-one k most i before p ≡ cond t (Ok e) (Err (Form i))
+      → formed-one k most i before p ≡ cond t (Ok e) (Err (Form i))
   formed-at i before p e t full shape place =
       let room = lt-ltb i most (leb-false most i full) in
       rw room (ap (placed k i before) shape ∙ ap (λ b. cond b (Ok e) (Err (Form i))) (sym place))
@@ -58,7 +58,7 @@ module _ {E : Type 0} (k : Kind E) (most : ℕ) where
 
   -- one piece more is an element
   pub formed-more : (acc more : List E) (rest front r : List ℕ) → cut-at 44 rest ≡ Some (front, r) → grown k most acc front ≡ Ok more
-    → behind-read more (formed k most (length more) (last-of more) (pieces r)) ≡ behind-read acc (formed k most (length acc) (last-of acc) (pieces rest))
+      → behind-read more (formed k most (length more) (last-of more) (pieces r)) ≡ behind-read acc (formed k most (length acc) (last-of acc) (pieces rest))
   formed-more acc more rest front r c h =
       let g = grown-ok acc more front h in
       let e = g .0 in
@@ -78,13 +78,13 @@ module _ {E : Type 0} (k : Kind E) (most : ℕ) where
 
   -- one piece more is none
   pub formed-stop : (acc : List E) (rest front r : List ℕ) (f : ElementFault) → cut-at 44 rest ≡ Some (front, r) → grown k most acc front ≡ Err f
-    → behind-read acc (formed k most (length acc) (last-of acc) (pieces rest)) ≡ Err f
+      → behind-read acc (formed k most (length acc) (last-of acc) (pieces rest)) ≡ Err f
   formed-stop acc rest front r f c h =
       ap (λ ps. behind-read acc (formed k most (length acc) (last-of acc) ps)) (pieces-cut rest front r c) ∙ grown-err acc front f (pieces r) h
 
   -- the last piece
   pub formed-last : (acc : List E) (rest : List ℕ) → cut-at 44 rest ≡ None
-    → behind-read acc (formed k most (length acc) (last-of acc) (pieces rest)) ≡ grown k most acc rest
+      → behind-read acc (formed k most (length acc) (last-of acc) (pieces rest)) ≡ grown k most acc rest
   formed-last acc rest c =
       ap (λ ps. behind-read acc (formed k most (length acc) (last-of acc) ps)) (pieces-last rest c) ∙ alone (formed-one k most (length acc) (last-of acc) rest)
     where
@@ -102,7 +102,7 @@ module _ {E : Type 0} (k : Kind E) (most : ℕ) where
 -- ---- the loop over the elements, for their limits
 
 pub outside-more : {E : Type 0} (inside : E → Bool) (xs : List E) (i : ℕ) (e : E) (t : Bool) → i < length xs → e ≡ getD xs i e → t ≡ inside e
-  → first-outside inside i (drop i xs) ≡ cond t (first-outside inside (i + 1) (drop (i + 1) xs)) (Some i)
+    → first-outside inside i (drop i xs) ≡ cond t (first-outside inside (i + 1) (drop (i + 1) xs)) (Some i)
 outside-more inside xs i e t h r p =
     ap (first-outside inside i) (drop-more xs i e h) ∙ ap (λ b. cond b (first-outside inside (i + 1) (drop (i + 1) xs)) (Some i)) (sym (p ∙ ap inside r))
 
@@ -120,7 +120,7 @@ module _ {E : Type 0} (k : Kind E) (most : ℕ) where
       let q = same-ok d e (g .1) in (ap (λ x. Some x) q, sym (ap (follows k before) q) ∙ g .0)
 
   pub formed-ok : (i : ℕ) (before : Option E) (ps : List (List ℕ)) (xs : List E) → formed k most i before ps ≡ Ok xs
-    → (map (k .shape) ps ≡ map (λ e. Some e) xs) × (i ≤ most → i + length xs ≤ most) × Ascends k before xs
+      → (map (k .shape) ps ≡ map (λ e. Some e) xs) × (i ≤ most → i + length xs ≤ most) × Ascends k before xs
   formed-ok i before [] xs h =
       let e = same-ok [] xs h in
       subst (λ ys. ([] ≡ map (λ e. Some e) ys) × (i ≤ most → i + length ys ≤ most) × Ascends k before ys) e (refl, λ l. omega arith, tt)
@@ -133,4 +133,4 @@ module _ {E : Type 0} (k : Kind E) (most : ℕ) where
       let d = formed-ok (i + 1) (Some e) ps (c .0) (c .1) in
       let room = ltb-true i most (a .0) in
       subst (λ ys. (map (k .shape) (p ∷ ps) ≡ map (λ e. Some e) ys) × (i ≤ most → i + length ys ≤ most) × Ascends k before ys) (c .2)
-        (ap₂ (λ y ys. y ∷ ys) (b .0) (d .0), λ l. omega (arith, d .1 (omega arith)), (b .1, d .2))
+      (ap₂ (λ y ys. y ∷ ys) (b .0) (d .0), λ l. omega (arith, d .1 (omega arith)), (b .1, d .2))

@@ -55,20 +55,20 @@ digit-from d h = and-from (leb 48 (48 + d)) (leb (48 + d) 57) (le-leb 48 (48 + d
 pub number-from : (n : ℕ) → n < 100 → number-of (spelled n) ≡ Some n
 number-from n h =
     ⊎-elim
-      (λ l. ap number-of (spelled-one n l) ∙ (let t = digit-from n l in let e : 48 + n - 48 ≡ n = omega arith in rw t (ap (λ x. Some x) e)))
-      (λ l. ap number-of (spelled-two n l)
-        ∙ (let t = digit-from (n / 10) (omega arith) in let t2 = digit-from (n % 10) (omega arith) in
-           let t3 = lt-ltb 48 (48 + n / 10) (omega arith) in
-           let e : (48 + n / 10 - 48) * 10 + (48 + n % 10 - 48) ≡ n = omega arith in rw (t, t3, t2) (ap (λ x. Some x) e)))
-      (cases-lt n 10)
+    (λ l. ap number-of (spelled-one n l) ∙ (let t = digit-from n l in let e : 48 + n - 48 ≡ n = omega arith in rw t (ap (λ x. Some x) e)))
+    (λ l. ap number-of (spelled-two n l)
+    ∙ (let t = digit-from (n / 10) (omega arith) in let t2 = digit-from (n % 10) (omega arith) in
+    let t3 = lt-ltb 48 (48 + n / 10) (omega arith) in
+    let e : (48 + n / 10 - 48) * 10 + (48 + n % 10 - 48) ≡ n = omega arith in rw (t, t3, t2) (ap (λ x. Some x) e)))
+    (cases-lt n 10)
 
 -- a numeral has neither a comma nor a line's end
 pub spelled-free : (b n : ℕ) → b < 48 → Free b (spelled n)
 spelled-free b n h =
     ⊎-elim
-      (λ l. rw (spelled-one n l) (λ e. omega arith, tt))
-      (λ l. rw (spelled-two n l) (λ e. omega arith, (λ e. omega arith, tt)))
-      (cases-lt n 10)
+    (λ l. rw (spelled-one n l) (λ e. omega arith, tt))
+    (λ l. rw (spelled-two n l) (λ e. omega arith, (λ e. omega arith, tt)))
+    (cases-lt n 10)
 
 pub spelled-some : (n : ℕ) → 0 < length (spelled n)
 spelled-some n = ⊎-elim (λ l. rw (spelled-one n l) (omega arith)) (λ l. rw (spelled-two n l) (omega arith)) (cases-lt n 10)
@@ -82,11 +82,12 @@ mapped-ok make num back (Some n) e h = let q : make n ≡ e = cc in ap (λ x. So
 
 -- an element that is a number, with its limits below 100
 pub numbered-exact : {E : Type 0} (make : ℕ → E) (num : E → ℕ) (after : E → E → Bool) (inside : ℕ → E → Bool)
-  → ((n : ℕ) → num (make n) ≡ n) → ((e : E) → make (num e) ≡ e) → ((limit : ℕ) → limit ≤ 100 → (e : E) → inside limit e ≡ true → num e < 100)
-  → Spells (numbered make num after inside) 2
+    → ((n : ℕ) → num (make n) ≡ n) → ((e : E) → make (num e) ≡ e) → ((limit : ℕ) → limit ≤ 100 → (e : E) → inside limit e ≡ true → num e < 100)
+    → Spells (numbered make num after inside) 2
 numbered-exact make num after inside back forth small = record {
-    to = λ v e h. number-to v (num e) (mapped-ok make num back (number-of v) e h) .1;
-    from = λ limit l e h. ap (mapped make) (number-from (num e) (small limit l e h)) ∙ ap (λ x. Some x) (forth e);
-    some = λ e. spelled-some (num e);
-    short = λ e. spelled-short (num e);
-    free = λ b h e. spelled-free b (num e) h }
+  to = λ v e h. number-to v (num e) (mapped-ok make num back (number-of v) e h) .1;
+  from = λ limit l e h. ap (mapped make) (number-from (num e) (small limit l e h)) ∙ ap (λ x. Some x) (forth e);
+  some = λ e. spelled-some (num e);
+  short = λ e. spelled-short (num e);
+  free = λ b h e. spelled-free b (num e) h;
+}

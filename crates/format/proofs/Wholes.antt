@@ -36,14 +36,15 @@ limited-ok k limit (Some d) e h =
 
 pub single-whole : {E : Type 0} (k : Kind E) (wide limit : ℕ) → Spells k wide → wide ≤ 80 → limit ≤ 100 → Whole (single-of k limit) (λ e. k .inside limit e ≡ true) (k .spell)
 single-whole k wide limit law narrow small = record {
-    to = λ v e h. let g = limited-ok k limit (k .shape v) e h in (g .1, law .to v e (g .0));
-    from = λ e h. ap (limited k limit) (law .from limit small e h) ∙ (rw h);
-    free = λ e h. law .free 10 (omega arith) e;
-    short = λ e h. omega (arith, law .short e) }
+  to = λ v e h. let g = limited-ok k limit (k .shape v) e h in (g .1, law .to v e (g .0));
+  from = λ e h. ap (limited k limit) (law .from limit small e h) ∙ (rw h);
+  free = λ e h. law .free 10 (omega arith) e;
+  short = λ e h. omega (arith, law .short e);
+}
 
 -- a number that was read is what the digits say
 pub single-number : {E : Type 0} (k : Kind E) (make : ℕ → E) (num : E → ℕ) → ((n : ℕ) → num (make n) ≡ n) → ((v : List ℕ) → k .shape v ≡ mapped make (number-of v))
-  → (limit : ℕ) (v : List ℕ) (e : E) → single-of k limit v ≡ Ok e → number-of v ≡ Some (num e)
+    → (limit : ℕ) (v : List ℕ) (e : E) → single-of k limit v ≡ Ok e → number-of v ≡ Some (num e)
 single-number k make num back shaped limit v e h = mapped-ok make num back (number-of v) e (sym (shaped v) ∙ limited-ok k limit (k .shape v) e h .0)
 
 -- ---- the elements of a list
@@ -66,9 +67,9 @@ pub outside-none : {E : Type 0} (inside : E → Bool) (i : ℕ) (es : List E) �
 outside-none inside i [] h = tt
 outside-none inside i (e ∷ es) h =
     ⊎-elim
-      (λ t. (t, outside-none inside (i + 1) es (rw t at h)))
-      (λ f. let g : Some i ≡ None = rw f at h in absurd (let z : _≡_ {A = ℕ} 0 1 = cc in omega arith))
-      (cases-bool (inside e))
+    (λ t. (t, outside-none inside (i + 1) es (rw t at h)))
+    (λ f. let g : Some i ≡ None = rw f at h in absurd (let z : _≡_ {A = ℕ} 0 1 = cc in omega arith))
+    (cases-bool (inside e))
 
 pub none-outside : {E : Type 0} (inside : E → Bool) (i : ℕ) (es : List E) → All (λ e. inside e ≡ true) es → first-outside inside i es ≡ None
 none-outside inside i [] h = refl
@@ -91,7 +92,7 @@ module _ {E : Type 0} (k : Kind E) (most wide : ℕ) (law : Spells k wide) where
       ap₂ (λ q qs. q ∷ qs) (law .to p e x) (shapes-spelled ps es y)
 
   formed-from : (limit : ℕ) → limit ≤ 100 → (i : ℕ) (before : Option E) (es : List E) → i + length es ≤ most → All (λ e. k .inside limit e ≡ true) es → Ascends k before es
-    → formed k most i before (map (k .spell) es) ≡ Ok es
+      → formed k most i before (map (k .spell) es) ≡ Ok es
   formed-from limit small i before [] l h a = refl
   formed-from limit small i before (e ∷ es) l h a =
       let t = lt-ltb i most (omega arith) in
@@ -123,17 +124,22 @@ module _ {E : Type 0} (k : Kind E) (most wide : ℕ) (law : Spells k wide) where
 
   pub list-whole : most * (wide + 1) ≤ 80 → (limit : ℕ) → limit ≤ 100 → Whole (list-of k most limit) (Good-list k most limit) (list-text k)
   list-whole fits limit small = record {
-      to = λ v xs h.
+    to = λ v xs h.
         let g = then-ok (formed k most 0 None (elements-of v)) (λ es. unless-outside es (first-outside (k .inside limit) 0 es)) xs h in
         let u = unless-ok (g .0) xs (first-outside (k .inside limit) 0 (g .0)) (g .2) in
         let f = formed-ok k most 0 None (elements-of v) (g .0) (g .1) in
-        let e = u .1 in
-        (record { few = subst (λ ys. length ys ≤ most) e (omega (arith, f .1 (omega arith))); order = subst (Ascends k None) e (f .2);
-                  range = subst (All (λ e. k .inside limit e ≡ true)) e (outside-none (k .inside limit) 0 (g .0) (u .0)) },
-          elements-to v ∙ ap commas (shapes-spelled (elements-of v) (g .0) (f .0) ∙ ap (λ ys. map (k .spell) ys) e));
-      from = λ es h.
+        let e = u .1 in (
+          record {
+            few = subst (λ ys. length ys ≤ most) e (omega (arith, f .1 (omega arith)));
+            order = subst (Ascends k None) e (f .2);
+            range = subst (All (λ e. k .inside limit e ≡ true)) e (outside-none (k .inside limit) 0 (g .0) (u .0));
+          },
+          elements-to v ∙ ap commas (shapes-spelled (elements-of v) (g .0) (f .0) ∙ ap (λ ys. map (k .spell) ys) e),
+        );
+    from = λ es h.
         ap (λ ps. and-then (formed k most 0 None ps) (λ es. unless-outside es (first-outside (k .inside limit) 0 es))) (elements-from es)
         ∙ ap (λ r. and-then r (λ es. unless-outside es (first-outside (k .inside limit) 0 es))) (formed-from limit small 0 None es (omega (arith, h .few)) (h .range) (h .order))
         ∙ ap (unless-outside es) (none-outside (k .inside limit) 0 es (h .range));
-      free = λ es h. commas-free (map (k .spell) es) (each-free 10 (omega arith) es);
-      short = λ es h. omega (arith, fits, commas-short es, mul-le-mul-right (wide + 1) (h .few)) }
+    free = λ es h. commas-free (map (k .spell) es) (each-free 10 (omega arith) es);
+    short = λ es h. omega (arith, fits, commas-short es, mul-le-mul-right (wide + 1) (h .few));
+  }

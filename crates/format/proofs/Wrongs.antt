@@ -46,9 +46,9 @@ module _ {E : Type 0} (k : Kind E) (limit : ℕ) (v : List ℕ) where
   single-cases None s f h = subst (Single-wrong k limit v) (same-some (Form 0) f h) (shapeless s)
   single-cases (Some e) s f h =
       ⊎-elim
-        (λ t. none-some f (rw t at h))
-        (λ x. subst (Single-wrong k limit v) (same-some (Range 0) f (rw x at h)) (outside e s x))
-        (cases-bool (k .inside limit e))
+      (λ t. none-some f (rw t at h))
+      (λ x. subst (Single-wrong k limit v) (same-some (Range 0) f (rw x at h)) (outside e s x))
+      (cases-bool (k .inside limit e))
 
   pub single-to : (f : ElementFault) → fault-of (single-of k limit v) ≡ Some f → Single-wrong k limit v f
   single-to f h = single-cases (k .shape v) refl f h
@@ -60,7 +60,7 @@ module _ {E : Type 0} (k : Kind E) (limit : ℕ) (v : List ℕ) where
 -- ---- the form of a list
 
 shapes-append : {E : Type 0} (k : Kind E) (ps : List (List ℕ)) (es : List E) (p : List ℕ) (e : E) → map (k .shape) ps ≡ map (λ e. Some e) es → k .shape p ≡ Some e
-  → map (k .shape) (ps ++ (p ∷ [])) ≡ map (λ e. Some e) (es ++ (e ∷ []))
+    → map (k .shape) (ps ++ (p ∷ [])) ≡ map (λ e. Some e) (es ++ (e ∷ []))
 shapes-append k ps es p e h s = map-push (k .shape) ps p ∙ ap₂ (λ xs x. xs ++ (x ∷ [])) h s ∙ sym (map-push (λ e. Some e) es e)
 
 -- the last of a list, or what came before it
@@ -82,11 +82,12 @@ ascends-push k o (x ∷ es) e a f = (a .0, ascends-push k (Some x) es e (a .1) f
 
 module _ {E : Type 0} (k : Kind E) (most : ℕ) where
   formed-push : (ps : List (List ℕ)) (es : List E) (p : List ℕ) (e : E) → Formed k most ps es → length es < most → k .shape p ≡ Some e → follows k (last-of es) e ≡ true
-    → Formed k most (ps ++ (p ∷ [])) (es ++ (e ∷ []))
+      → Formed k most (ps ++ (p ∷ [])) (es ++ (e ∷ []))
   formed-push ps es p e h room s f = record {
-      few = omega (arith, length-push es e);
-      shapes = shapes-append k ps es p e (h .shapes) s;
-      order = ascends-push k None es e (h .order) (ap (λ o. follows k o e) (last-or-none es) ∙ f) }
+    few = omega (arith, length-push es e);
+    shapes = shapes-append k ps es p e (h .shapes) s;
+    order = ascends-push k None es e (h .order) (ap (λ o. follows k o e) (last-or-none es) ∙ f);
+  }
 
   -- one piece more: an element, or not
   pub record Taken (es : List E) (p : List ℕ) (e : E) : Type 0 where
@@ -105,16 +106,16 @@ module _ {E : Type 0} (k : Kind E) (most : ℕ) where
   shape-cases es p room (Some e) s =
       let t = lt-ltb (length es) most room in
       ⊎-elim
-        (λ f. inl (e, record { one = rw t (ap (placed k (length es) (last-of es)) s ∙ (rw f)); room = room; shape = s; place = f }))
-        (λ f. inr (record { one = rw t (ap (placed k (length es) (last-of es)) s ∙ (rw f)); why = unordered e s f }))
-        (cases-bool (follows k (last-of es) e))
+      (λ f. inl (e, record { one = rw t (ap (placed k (length es) (last-of es)) s ∙ (rw f)); room = room; shape = s; place = f }))
+      (λ f. inr (record { one = rw t (ap (placed k (length es) (last-of es)) s ∙ (rw f)); why = unordered e s f }))
+      (cases-bool (follows k (last-of es) e))
 
   one-cases : (es : List E) (p : List ℕ) → ((e : E) × Taken es p e) ⊎ Left es p
   one-cases es p =
       ⊎-elim
-        (λ room. shape-cases es p room (k .shape p) refl)
-        (λ full. let t = le-ltb (length es) most full in inr (record { one = rw t; why = too-many full }))
-        (cases-lt (length es) most)
+      (λ room. shape-cases es p room (k .shape p) refl)
+      (λ full. let t = le-ltb (length es) most full in inr (record { one = rw t; why = too-many full }))
+      (cases-lt (length es) most)
 
   put-fault : (e : E) (r : Result (List E) ElementFault) → fault-of (put-first e r) ≡ fault-of r
   put-fault e (Ok es) = refl
@@ -131,22 +132,22 @@ module _ {E : Type 0} (k : Kind E) (most : ℕ) where
     pub is : Form (length es) ≡ f
 
   form-to : (done : List (List ℕ)) (es : List E) (ps : List (List ℕ)) (f : ElementFault) → Formed k most done es
-    → fault-of (formed k most (length es) (last-of es) ps) ≡ Some f → First-left (done ++ ps) f
+      → fault-of (formed k most (length es) (last-of es) ps) ≡ Some f → First-left (done ++ ps) f
   form-to done es [] f h x = none-some f x
   form-to done es (p ∷ ps) f h x =
       ⊎-elim
-        (λ t. let e = t .0 in
-          let q = ap (λ r. fault-of (and-then r (λ e. put-first e (formed k most (length es + 1) (Some e) ps)))) (t .1 .one) ∙ put-fault e (formed k most (length es + 1) (Some e) ps) in
-          let n = length-push es e in let l = last-push es e in
-          let again = form-to (done ++ (p ∷ [])) (es ++ (e ∷ [])) ps f (formed-push done es p e h (t .1 .room) (t .1 .shape) (t .1 .place))
-                (ap₂ (λ i o. fault-of (formed k most i o ps)) n l ∙ sym q ∙ x) in
-          subst (λ qs. First-left qs f) (append-assoc done (p ∷ []) ps) again)
-        (λ w. let q = ap (λ r. fault-of (and-then r (λ e. put-first e (formed k most (length es + 1) (Some e) ps)))) (w .one) in
-          record { done = done; piece = p; rest = ps; es = es; split = refl; right = h; wrong = w .why; is = same-some _ _ (sym q ∙ x) })
-        (one-cases es p)
+      (λ t. let e = t .0 in
+      let q = ap (λ r. fault-of (and-then r (λ e. put-first e (formed k most (length es + 1) (Some e) ps)))) (t .1 .one) ∙ put-fault e (formed k most (length es + 1) (Some e) ps) in
+      let n = length-push es e in let l = last-push es e in
+      let again = form-to (done ++ (p ∷ [])) (es ++ (e ∷ [])) ps f (formed-push done es p e h (t .1 .room) (t .1 .shape) (t .1 .place))
+      (ap₂ (λ i o. fault-of (formed k most i o ps)) n l ∙ sym q ∙ x) in
+      subst (λ qs. First-left qs f) (append-assoc done (p ∷ []) ps) again)
+      (λ w. let q = ap (λ r. fault-of (and-then r (λ e. put-first e (formed k most (length es + 1) (Some e) ps)))) (w .one) in
+      record { done = done; piece = p; rest = ps; es = es; split = refl; right = h; wrong = w .why; is = same-some _ _ (sym q ∙ x) })
+      (one-cases es p)
 
   form-run : (i : ℕ) (o : Option E) (done : List (List ℕ)) (es : List E) → map (k .shape) done ≡ map (λ e. Some e) es → i + length es ≤ most → Ascends k o es
-    → (rest : List (List ℕ)) → fault-of (formed k most i o (done ++ rest)) ≡ fault-of (formed k most (i + length es) (last-or o es) rest)
+      → (rest : List (List ℕ)) → fault-of (formed k most i o (done ++ rest)) ≡ fault-of (formed k most (i + length es) (last-or o es) rest)
   form-run i o [] [] s l a rest = let z : i + 0 ≡ i = omega arith in ap (λ j. fault-of (formed k most j o rest)) (sym z)
   form-run i o [] (e ∷ es) s l a rest = absurd (let z : _≡_ {A = ℕ} 0 1 = cc in omega arith)
   form-run i o (p ∷ done) [] s l a rest = absurd (let z : _≡_ {A = ℕ} 0 1 = cc in omega arith)
@@ -176,7 +177,7 @@ module _ {E : Type 0} (k : Kind E) (most : ℕ) where
       room-or-not (inr t) = rw t
 
   form-from : (ps : List (List ℕ)) (done : List (List ℕ)) (p : List ℕ) (rest : List (List ℕ)) (es : List E) → ps ≡ done ++ (p ∷ rest) → Formed k most done es → Misplaced k most es p
-    → fault-of (formed k most 0 None ps) ≡ Some (Form (length es))
+      → fault-of (formed k most 0 None ps) ≡ Some (Form (length es))
   form-from ps done p rest es split h w =
       let n : 0 + length es ≡ length es = omega arith in
       ap (λ qs. fault-of (formed k most 0 None qs)) split
@@ -198,20 +199,20 @@ range-to : {E : Type 0} (inside : E → Bool) (i : ℕ) (es : List E) (j : ℕ) 
 range-to inside i [] j h = none-some j h
 range-to inside i (e ∷ es) j h =
     ⊎-elim
-      (λ t. let g = range-to inside (i + 1) es j (rw t at h) in let o = g .0 in
-        (record { before = e ∷ o .before; item = o .item; after = o .after; split = ap (λ xs. e ∷ xs) (o .split); right = (t, o .right); wrong = o .wrong }, omega (arith, g .1)))
-      (λ f. let q = same-some i j (rw f at h) in (record { before = []; item = e; after = es; split = refl; right = tt; wrong = f }, omega arith))
-      (cases-bool (inside e))
+    (λ t. let g = range-to inside (i + 1) es j (rw t at h) in let o = g .0 in
+    (record { before = e ∷ o .before; item = o .item; after = o .after; split = ap (λ xs. e ∷ xs) (o .split); right = (t, o .right); wrong = o .wrong }, omega (arith, g .1)))
+    (λ f. let q = same-some i j (rw f at h) in (record { before = []; item = e; after = es; split = refl; right = tt; wrong = f }, omega arith))
+    (cases-bool (inside e))
 
 range-from : {E : Type 0} (inside : E → Bool) (i : ℕ) (before : List E) (e : E) (after : List E) → All (λ x. inside x ≡ true) before → inside e ≡ false
-  → first-outside inside i (before ++ (e ∷ after)) ≡ Some (i + length before)
+    → first-outside inside i (before ++ (e ∷ after)) ≡ Some (i + length before)
 range-from inside i [] e after h f = let z : i + 0 ≡ i = omega arith in rw f (ap (λ j. Some j) (sym z))
 range-from inside i (x ∷ xs) e after h f =
     let t = h .0 in let z : i + 1 + length xs ≡ i + suc (length xs) = omega arith in rw t (range-from inside (i + 1) xs e after (h .1) f ∙ ap (λ j. Some j) z)
 
 module _ {E : Type 0} (k : Kind E) (most limit : ℕ) (v : List ℕ) where
   range-cases : (es : List E) → formed k most 0 None (elements-of v) ≡ Ok es → (o : Option ℕ) → first-outside (k .inside limit) 0 es ≡ o → (f : ElementFault)
-    → fault-of (unless-outside es o) ≡ Some f → List-wrong k most limit v f
+      → fault-of (unless-outside es o) ≡ Some f → List-wrong k most limit v f
   range-cases es done None x f h = none-some f h
   range-cases es done (Some j) x f h =
       let g = range-to (k .inside limit) 0 es j x in
@@ -220,10 +221,10 @@ module _ {E : Type 0} (k : Kind E) (most limit : ℕ) (v : List ℕ) where
       let whole : Formed k most (elements-of v) es = record { few = omega (arith, a .1 (omega arith)); shapes = a .0; order = a .2 } in
       let n : length (o .before) ≡ j = omega (arith, g .1) in
       subst (List-wrong k most limit v) (ap (λ i. Range i) n ∙ same-some (Range j) f h)
-        (range (o .before) (o .item) (o .after) (subst (Formed k most (elements-of v)) (o .split) whole) (o .right) (o .wrong))
+      (range (o .before) (o .item) (o .after) (subst (Formed k most (elements-of v)) (o .split) whole) (o .right) (o .wrong))
 
   form-cases : (r : Result (List E) ElementFault) → formed k most 0 None (elements-of v) ≡ r → (f : ElementFault)
-    → fault-of (and-then r (λ es. unless-outside es (first-outside (k .inside limit) 0 es))) ≡ Some f → List-wrong k most limit v f
+      → fault-of (and-then r (λ es. unless-outside es (first-outside (k .inside limit) 0 es))) ≡ Some f → List-wrong k most limit v f
   form-cases (Ok es) done f h = range-cases es done (first-outside (k .inside limit) 0 es) refl f h
   form-cases (Err g) done f h =
       let w = form-to k most [] [] (elements-of v) g (record { few = omega arith; shapes = refl; order = tt }) (ap fault-of done) in
@@ -277,18 +278,18 @@ pub cut-free : (b : ℕ) (t : List ℕ) (p : List ℕ × List ℕ) → cut-at b 
 cut-free b [] p h = none-some p h
 cut-free b (x ∷ xs) p h =
     ⊎-elim
-      (λ e. let t = eq-eqb x b e in let q = same-some ([], xs) p (rw t at h) in subst (λ (w : List ℕ × List ℕ). Free b (w .0)) q tt)
-      (λ ne. let f = ne-eqb x b ne in let g = behind-parts x (cut-at b xs) p (rw f at h) in
-        subst (λ (w : List ℕ × List ℕ). Free b (w .0)) (sym (g .2)) (ne, cut-free b xs (g .0) (g .1)))
-      (cases-eq x b)
+    (λ e. let t = eq-eqb x b e in let q = same-some ([], xs) p (rw t at h) in subst (λ (w : List ℕ × List ℕ). Free b (w .0)) q tt)
+    (λ ne. let f = ne-eqb x b ne in let g = behind-parts x (cut-at b xs) p (rw f at h) in
+    subst (λ (w : List ℕ × List ℕ). Free b (w .0)) (sym (g .2)) (ne, cut-free b xs (g .0) (g .1)))
+    (cases-eq x b)
 
 pub none-free : (b : ℕ) (t : List ℕ) → cut-at b t ≡ None → Free b t
 none-free b [] h = tt
 none-free b (x ∷ xs) h =
     ⊎-elim
-      (λ e. let t = eq-eqb x b e in let z : Some ([], xs) ≡ None = rw t at h in absurd (let y : _≡_ {A = ℕ} 0 1 = cc in omega arith))
-      (λ ne. let f = ne-eqb x b ne in (ne, none-free b xs (rest (cut-at b xs) (rw f at h))))
-      (cases-eq x b)
+    (λ e. let t = eq-eqb x b e in let z : Some ([], xs) ≡ None = rw t at h in absurd (let y : _≡_ {A = ℕ} 0 1 = cc in omega arith))
+    (λ ne. let f = ne-eqb x b ne in (ne, none-free b xs (rest (cut-at b xs) (rw f at h))))
+    (cases-eq x b)
   where
     rest : (o : Option (List ℕ × List ℕ)) → behind x o ≡ None → o ≡ None
     rest None h = refl
@@ -297,15 +298,15 @@ none-free b (x ∷ xs) h =
 module _ (key : List ℕ) (bad : List ℕ → ElementFault → Type 0) (g : List ℕ → Option ElementFault) (n : ℕ) (s : List ℕ)
     (to : (v : List ℕ) (e : ElementFault) → g v ≡ Some e → bad v e) (from : (v : List ℕ) (e : ElementFault) → bad v e → g v ≡ Some e) where
   value-cases : (v rest : List ℕ) → s ≡ (key ++ v) ++ (10 ∷ rest) → Free 10 (key ++ v) → length (key ++ v) ≤ 96 → (o : Option ElementFault) → g v ≡ o → (f : LineFault)
-    → mapped (λ e. Element n e) o ≡ Some f → Line-wrong key bad n s f
+      → mapped (λ e. Element n e) o ≡ Some f → Line-wrong key bad n s f
   value-cases v rest e free l None x f h = none-some f h
   value-cases v rest e free l (Some d) x f h = subst (Line-wrong key bad n s) (same-some (Element n d) f h) (element v rest d e free l (to v d x))
 
   key-cases : (line rest : List ℕ) → s ≡ line ++ (10 ∷ rest) → Free 10 line → length line ≤ 96 → (o : Option (List ℕ)) → after-key key line ≡ o → (f : LineFault)
-    → faulty n (keyed n rest o) g ≡ Some f → Line-wrong key bad n s f
+      → faulty n (keyed n rest o) g ≡ Some f → Line-wrong key bad n s f
   key-cases line rest e free l None x f h =
       subst (Line-wrong key bad n s) (same-some (WrongKey n) f h)
-        (wrong-key line rest e free l (λ v q. let z : _≡_ {A = Option (List ℕ)} None (Some v) = sym x ∙ ap (after-key key) q ∙ after-from key v in none-some v z))
+      (wrong-key line rest e free l (λ v q. let z : _≡_ {A = Option (List ℕ)} None (Some v) = sym x ∙ ap (after-key key) q ∙ after-from key v in none-some v z))
   key-cases line rest e free l (Some v) x f h =
       let q = after-to key line v x in
       value-cases v rest (e ∙ ap (λ w. w ++ (10 ∷ rest)) q) (subst (Free 10) q free) (omega (arith, ap length q)) (g v) refl f h
@@ -314,9 +315,9 @@ module _ (key : List ℕ) (bad : List ℕ → ElementFault → Type 0) (g : List
   cut-cases None x f h = subst (Line-wrong key bad n s) (same-some (Unended n) f h) (unended (none-free 10 s x))
   cut-cases (Some p) x f h =
       ⊎-elim
-        (λ t. key-cases (p .0) (p .1) (cut-to 10 s p x) (cut-free 10 s p x) (leb-true (length (p .0)) 96 t) (after-key key (p .0)) refl f (rw t at h))
-        (λ t. subst (Line-wrong key bad n s) (same-some (Overlong n) f (rw t at h)) (overlong (p .0) (p .1) (cut-to 10 s p x) (cut-free 10 s p x) (leb-false (length (p .0)) 96 t)))
-        (cases-bool (leb (length (p .0)) 96))
+      (λ t. key-cases (p .0) (p .1) (cut-to 10 s p x) (cut-free 10 s p x) (leb-true (length (p .0)) 96 t) (after-key key (p .0)) refl f (rw t at h))
+      (λ t. subst (Line-wrong key bad n s) (same-some (Overlong n) f (rw t at h)) (overlong (p .0) (p .1) (cut-to 10 s p x) (cut-free 10 s p x) (leb-false (length (p .0)) 96 t)))
+      (cases-bool (leb (length (p .0)) 96))
 
   pub line-to : (f : LineFault) → faulty n (line-at key n s) g ≡ Some f → Line-wrong key bad n s f
   line-to f h = cut-cases (cut-at 10 s) refl f h

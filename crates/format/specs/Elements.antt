@@ -4,7 +4,8 @@
 --     single-of k l v    the one element that v is, with its number below l; a fault names element 0
 --     formed k m i o ps  the elements that the pieces ps are, the first of them element i behind o: each in turn is
 --                        tried for too many (over m), for its shape, and for its place behind the one before
---     grown k m es p     the list es with one element more, which the piece p is
+--     next-of k m es p   the element that the piece p is behind the list es
+--     grown k m es p     the list es with that element more
 --     first-outside      the first element outside its limits, where there is one
 --     list-of k m l v    the list that v is: the form of every element, then the range of every element
 --     Ascends k o es     each element may stand behind the one before it, the first behind o
@@ -79,8 +80,11 @@ abbrev pub formed : {E : Type 0} → Kind E → ℕ → ℕ → Option E → Lis
 formed k most i before [] = Ok []
 formed k most i before (p ∷ ps) = and-then (formed-one k most i before p) (λ e. put-first e (formed k most (i + 1) (Some e) ps))
 
+abbrev pub next-of : {E : Type 0} → Kind E → ℕ → List E → List ℕ → Result E ElementFault
+next-of k most es p = formed-one k most (length es) (last-of es) p
+
 abbrev pub grown : {E : Type 0} → Kind E → ℕ → List E → List ℕ → Result (List E) ElementFault
-grown k most es p = and-then (formed-one k most (length es) (last-of es) p) (λ e. Ok (es ++ (e ∷ [])))
+grown k most es p = and-then (next-of k most es p) (λ e. Ok (es ++ (e ∷ [])))
 
 abbrev pub first-outside : {E : Type 0} → (E → Bool) → ℕ → List E → Option ℕ
 first-outside inside i [] = None

@@ -37,9 +37,9 @@ pub data Misplaced {E : Type 0} (k : Kind E) (most : ℕ) (es : List E) (p : Lis
 
 pub data List-wrong {E : Type 0} (k : Kind E) (most limit : ℕ) (v : List ℕ) : ElementFault → Type 0 where
   form : (ps : List (List ℕ)) (p : List ℕ) (qs : List (List ℕ)) (es : List E)
-    → elements-of v ≡ ps ++ (p ∷ qs) → Formed k most ps es → Misplaced k most es p → List-wrong k most limit v (Form (length es))
+      → elements-of v ≡ ps ++ (p ∷ qs) → Formed k most ps es → Misplaced k most es p → List-wrong k most limit v (Form (length es))
   range : (es : List E) (e : E) (fs : List E)
-    → Formed k most (elements-of v) (es ++ (e ∷ fs)) → All (λ x. k .inside limit x ≡ true) es → k .inside limit e ≡ false → List-wrong k most limit v (Range (length es))
+      → Formed k most (elements-of v) (es ++ (e ∷ fs)) → All (λ x. k .inside limit x ≡ true) es → k .inside limit e ≡ false → List-wrong k most limit v (Range (length es))
 
 pub data Line-wrong (key : List ℕ) (bad : List ℕ → ElementFault → Type 0) (n : ℕ) (s : List ℕ) : LineFault → Type 0 where
   unended : Free 10 s → Line-wrong key bad n s (Unended n)

@@ -1,8 +1,7 @@
 // Bytes: cut in two at a byte, and read as a number.
 ghost use mathlib.Core.Path.{_≡_};
-ghost use Rattle.std.specs.Options.{Cases};
-ghost use Rattle.std.specs.declared.option.Option.the-variants.{Some, None};
 ghost use Rattle.fixed.specs.Items.{items};
+ghost use Rattle.format.specs.Gives.{Cut-gives};
 ghost use Rattle.format.specs.Bytes.{cut-at, number-of, spelled};
 use fixed::array_vec::ArrayVec;
 
@@ -15,11 +14,14 @@ pub struct Parts<'a> {
 
 // What stands before the first `byte`, and what stands after it.
 pub fn cut(text: &[u8], byte: u8) -> Option<Parts<'_>>
-    ensures { λ r. ⌜ Cases r (cut-at byte (now (text .entry)) ≡ None) (λ p. cut-at byte (now (text .entry)) ≡ Some (now (p .front), now (p .rest))) ⌝ }
+    ensures { λ r. ⌜ Cut-gives (cut-at byte (now (text .entry))) r ⌝ }
 {
     for (i, x) in text.iter().enumerate() {
         if *x == byte {
-            return Some(Parts { front: &text[0..i], rest: &text[i + 1..] });
+            return Some(Parts {
+                front: &text[0..i],
+                rest: &text[i + 1..],
+            });
         }
     }
     None

@@ -7,6 +7,7 @@ use fixed::array_vec::ArrayVec;
 
 pub trait Element: Copy {
     ghost kind: { Kind Self };
+
     ghost wide: { ℕ };
 
     // its shapes are just its spellings

@@ -33,7 +33,10 @@ pub impl From<(u16, ElementFault)> for LineFault as LineFaultFromElementFault {
     ghost converts = { λ p r. r ≡ Element (p .0) (p .1) };
 
     fn from(placed: (u16, ElementFault)) -> LineFault {
-        LineFault::Element { line: placed.0, fault: placed.1 }
+        LineFault::Element {
+            line: placed.0,
+            fault: placed.1,
+        }
     }
 }
 
@@ -55,8 +58,18 @@ impl TextFault {
             TextFault::Line(LineFault::Unended { .. }) => 2,
             TextFault::Line(LineFault::Overlong { .. }) => 3,
             TextFault::Line(LineFault::WrongKey { .. }) => 4,
-            TextFault::Line(LineFault::Element { fault: ElementFault::Form { .. }, .. }) => 5,
-            TextFault::Line(LineFault::Element { fault: ElementFault::Range { .. }, .. }) => 6,
+            TextFault::Line(
+                LineFault::Element {
+                    fault: ElementFault::Form { .. },
+                    ..
+                },
+            ) => 5,
+            TextFault::Line(
+                LineFault::Element {
+                    fault: ElementFault::Range { .. },
+                    ..
+                },
+            ) => 6,
             TextFault::Trailing { .. } => 7,
         }
     }
@@ -80,8 +93,18 @@ impl TextFault {
         ensures { λ r. ⌜ r ≡ fault-element self ⌝ }
     {
         match self {
-            TextFault::Line(LineFault::Element { fault: ElementFault::Form { element }, .. }) => Some(element),
-            TextFault::Line(LineFault::Element { fault: ElementFault::Range { element }, .. }) => Some(element),
+            TextFault::Line(
+                LineFault::Element {
+                    fault: ElementFault::Form { element },
+                    ..
+                },
+            ) => Some(element),
+            TextFault::Line(
+                LineFault::Element {
+                    fault: ElementFault::Range { element },
+                    ..
+                },
+            ) => Some(element),
             _ => None,
         }
     }

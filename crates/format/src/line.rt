@@ -1,7 +1,5 @@
 // One line `key=value` of a text.
-ghost use mathlib.Core.Path.{_≡_};
-ghost use Rattle.std.specs.Results.{Cases};
-ghost use Rattle.std.specs.declared.result.Result.the-variants.{Ok, Err};
+ghost use Rattle.format.specs.Gives.{Line-gives};
 ghost use Rattle.format.specs.Readers.{line-at};
 use super::bytes::Parts;
 use super::bytes::cut;
@@ -9,7 +7,7 @@ use super::fault::LineFault;
 
 // The value of the first line, which is line `number` and begins with `key`, and the rest of the text.
 pub fn keyed_line<'a>(key: &[u8], number: u16, text: &'a [u8]) -> Result<Parts<'a>, LineFault>
-    ensures { λ r. ⌜ Cases r (λ p. line-at (now (key .entry)) number (now (text .entry)) ≡ Ok (now (p .front), now (p .rest))) (λ f. line-at (now (key .entry)) number (now (text .entry)) ≡ Err f) ⌝ }
+    ensures { λ r. ⌜ Line-gives (line-at (now (key .entry)) number (now (text .entry))) r ⌝ }
 {
     let Some(line) = cut(text, b'\n') else {
         return Err(LineFault::Unended { line: number });
@@ -19,6 +17,9 @@ pub fn keyed_line<'a>(key: &[u8], number: u16, text: &'a [u8]) -> Result<Parts<'
     }
     match line.front.strip_prefix(key) {
         None => Err(LineFault::WrongKey { line: number }),
-        Some(front) => Ok(Parts { front, rest: line.rest }),
+        Some(front) => Ok(Parts {
+            front,
+            rest: line.rest,
+        }),
     }
 }

@@ -1,16 +1,13 @@
 // The value of a line: one element, or a list of them.
 ghost use mathlib.Core.Path.{_≡_};
-ghost use mathlib.Core.Bool.{Bool};
-ghost use mathlib.Core.List.{List, []};
+ghost use mathlib.Core.List.{List};
 ghost use Prim.Native.Nat.{ℕ};
-ghost use lib.ListN.{length};
-ghost use Rattle.std.specs.Results.{Cases};
-ghost use Rattle.std.specs.declared.option.Option.the-variants.{Some, None};
+ghost use Rattle.std.specs.declared.option.Option.the-variants.{None};
 ghost use Rattle.std.specs.declared.result.Result.{Result};
-ghost use Rattle.std.specs.declared.result.Result.the-variants.{Ok, Err};
-ghost use Rattle.fixed.specs.Items.{items, most, last-of};
+ghost use Rattle.fixed.specs.Items.{items, most};
 ghost use Rattle.format.specs.Bytes.{elements-of};
-ghost use Rattle.format.specs.Elements.{by, follows, formed-one, grown, formed, first-outside, single-of, list-of};
+ghost use Rattle.format.specs.Gives.{Grown-gives};
+ghost use Rattle.format.specs.Elements.{by, follows, next-of, grown, formed, first-outside, single-of, list-of};
 ghost use Rattle.format.specs.declared.fault.ElementFault.{ElementFault};
 use super::bytes::cut;
 use super::element::Element;
@@ -20,7 +17,9 @@ use fixed::array_vec::ArrayVec;
 // What a line says behind its key, read with the number that its elements have to be below.
 pub trait Value: Copy {
     ghost Said: { Type 0 };
+
     ghost said: { Self → Said };
+
     ghost reads: { ℕ → List ℕ → Result Said ElementFault };
 
     fn read(limit: u8, value: &[u8]) -> Result<Self, ElementFault>
@@ -35,7 +34,9 @@ pub struct Single<E> {
 
 pub impl<E: Element> Value for Single<E> as SingleValue {
     ghost Said = { E };
+
     ghost said = { λ s. s .item };
+
     ghost reads = { single-of (E·Element .kind) };
 
     fn read(limit: u8, value: &[u8]) -> Result<Self, ElementFault> {
@@ -61,8 +62,11 @@ fn fits_behind<E: Element>(before: Option<E>, item: E) -> bool
 }
 
 // The next element of a list: too many, then its shape, then its place.
-fn next_element<E: Element, const N: usize>(list: &ArrayVec<E, N>, piece: &[u8]) -> Result<E, ElementFault>
-    ensures { λ r. ⌜ r ≡ formed-one kind (most N) (length (items (now (list .entry)))) (last-of (items (now (list .entry)))) (now (piece .entry)) ⌝ }
+fn next_element<E: Element, const N: usize>(
+    list: &ArrayVec<E, N>,
+    piece: &[u8],
+) -> Result<E, ElementFault>
+    ensures { λ r. ⌜ r ≡ next-of kind (most N) (items (now (list .entry))) (now (piece .entry)) ⌝ }
 {
     let element = list.len();
     if list.is_full() {
@@ -79,8 +83,11 @@ fn next_element<E: Element, const N: usize>(list: &ArrayVec<E, N>, piece: &[u8])
 }
 
 // One element more.
-fn add<E: Element, const N: usize>(list: &mut ArrayVec<E, N>, piece: &[u8]) -> Result<(), ElementFault>
-    ensures { λ r. ⌜ Cases r (λ _. grown kind (most N) (items (now (list .entry))) (now (piece .entry)) ≡ Ok (items (now (list .exit)))) (λ f. grown kind (most N) (items (now (list .entry))) (now (piece .entry)) ≡ Err f) ⌝ }
+fn add<E: Element, const N: usize>(
+    list: &mut ArrayVec<E, N>,
+    piece: &[u8],
+) -> Result<(), ElementFault>
+    ensures { λ r. ⌜ Grown-gives (grown kind (most N) (items (now (list .entry))) (now (piece .entry))) (items (now (list .exit))) r ⌝ }
 {
     let item = next_element(list, piece)?;
     match list.push(item) {
@@ -122,7 +129,9 @@ fn outside<E: Element, const N: usize>(list: &ArrayVec<E, N>, limit: u8) -> Opti
 // A list of at most N elements: the form of every element, then the range of every element.
 pub impl<E: Element, const N: usize> Value for ArrayVec<E, N> as ArrayVecValue {
     ghost Said = { List E };
+
     ghost said = { items };
+
     ghost reads = { list-of (E·Element .kind) (most N) };
 
     fn read(limit: u8, value: &[u8]) -> Result<Self, ElementFault> {

@@ -14,18 +14,18 @@ use Rattle.chart_reader.proofs.reader.draw.Needs.{In-Continue-rest, at·return
 all-drawn : (c : In-Continue-rest) → drawn 1 (c .args .text .now) ≡ Ok (plan-of (c .fill .last .drawing), c .in-Continue-rest .rest .now)
 all-drawn c =
     drawn-done (c .args .text .now) (c .in-Continue-name .name .rest .now) (c .in-Continue-events .events .rest .now) (c .in-Continue-automata .automata .rest .now)
-      (c .in-Continue-states .states .rest .now) (c .in-Continue-transitions .transitions .rest .now) _ _ _ _ _
-      (c .in-Continue-name .ensures tt) (c .in-Continue-events .ensures tt) (c .in-Continue-automata .ensures tt) (c .in-Continue-states .ensures tt) (c .in-Continue-transitions .ensures tt)
-      (c .blank-drawing .result) (c .fill .last .drawing) (c .in-Continue-rest .rest .now) (c .in-Continue-rest .ensures tt)
-      (ap (λ n. items (n .bytes)) (c .blank-drawing .ensures .head .0)) (c .blank-drawing .ensures .head .1)
+    (c .in-Continue-states .states .rest .now) (c .in-Continue-transitions .transitions .rest .now) _ _ _ _ _
+    (c .in-Continue-name .ensures tt) (c .in-Continue-events .ensures tt) (c .in-Continue-automata .ensures tt) (c .in-Continue-states .ensures tt) (c .in-Continue-transitions .ensures tt)
+    (c .blank-drawing .result) (c .fill .last .drawing) (c .in-Continue-rest .rest .now) (c .in-Continue-rest .ensures tt)
+    (ap (λ n. items (n .bytes)) (c .blank-drawing .ensures .head .0)) (c .blank-drawing .ensures .head .1)
 
 pub returns-then-is-empty : need.returns-then-is-empty
 returns-then-is-empty c =
     sym (ended-well (c .args .text .now) (plan-of (c .fill .last .drawing)) (c .in-Continue-rest .rest .now) (all-drawn (at·returns-then-is-empty c .In-Continue-rest))
-      (eqb-true _ 0 (sym (c .if-is-empty .ensures tt))))
+    (eqb-true _ 0 (sym (c .if-is-empty .ensures tt))))
 
 pub returns-else-is-empty : need.returns-else-is-empty
 returns-else-is-empty c =
     ap (λ n. Err (Trailing n)) (c .end-line .ensures)
     ∙ sym (ended-badly (c .args .text .now) (plan-of (c .fill .last .drawing)) (c .in-Continue-rest .rest .now) (all-drawn (at·returns-else-is-empty c .In-Continue-rest))
-      (eqb-false _ 0 (sym (c .if-is-empty .ensures tt))))
+    (eqb-false _ 0 (sym (c .if-is-empty .ensures tt))))

@@ -11,7 +11,7 @@ abbrev pub Inv-loop-left : given.InvT-loop-left
 Inv-loop-left g l =
     (length (items (l .rows)) + l .left ≤ most (g .N)) × (l .at + 8 * l .left ≤ l .entry .at + 8 * l .entry .left)
     × (rows-behind (map (g .R·Row .said) (items (l .rows))) (times (l .left) (g .R·Row .lines) (g .R·Row .reads (l .counts)) (l .at) (l .rest))
-        ≡ rows-behind (map (g .R·Row .said) (items (l .entry .rows))) (times (l .entry .left) (g .R·Row .lines) (g .R·Row .reads (l .counts)) (l .entry .at) (l .entry .rest)))
+    ≡ rows-behind (map (g .R·Row .said) (items (l .entry .rows))) (times (l .entry .left) (g .R·Row .lines) (g .R·Row .reads (l .counts)) (l .entry .at) (l .entry .rest)))
 
 abbrev pub μ-loop-left : given.MeasureT-loop-left
 μ-loop-left g l = l .left

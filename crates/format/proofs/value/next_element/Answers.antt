@@ -14,7 +14,7 @@ returns-then-fits-behind g c =
     let k = g .E·Element .kind in
     let item = c .in-Some .item in
     sym (formed-at k (most (g .N)) (length (items (c .args .list .now))) (last-of (items (c .args .list .now))) (c .args .piece .now) item true
-      (sym (c .is-full .ensures) ∙ c .if-is-full .left) (sym (c .in-Some .ensures tt)) (c .if-fits-behind .ensures tt ∙ ap (λ o. follows k o item) (c .last .ensures)))
+    (sym (c .is-full .ensures) ∙ c .if-is-full .left) (sym (c .in-Some .ensures tt)) (c .if-fits-behind .ensures tt ∙ ap (λ o. follows k o item) (c .last .ensures)))
 
 pub returns-else-fits-behind : need.returns-else-fits-behind
 returns-else-fits-behind g c =
@@ -22,4 +22,4 @@ returns-else-fits-behind g c =
     let item = c .in-Some .item in
     ap (λ n. Err (Form n)) (c .len-element .ensures .value)
     ∙ sym (formed-at k (most (g .N)) (length (items (c .args .list .now))) (last-of (items (c .args .list .now))) (c .args .piece .now) item false
-      (sym (c .is-full .ensures) ∙ c .if-is-full .left) (sym (c .in-Some .ensures tt)) (c .if-fits-behind .ensures tt ∙ ap (λ o. follows k o item) (c .last .ensures)))
+    (sym (c .is-full .ensures) ∙ c .if-is-full .left) (sym (c .in-Some .ensures tt)) (c .if-fits-behind .ensures tt ∙ ap (λ o. follows k o item) (c .last .ensures)))

@@ -19,9 +19,9 @@ loop-item-again g c =
     let n = ap length (c .loop-item .inv) ∙ length-append front (take i fitting) in
     let a = length-take k (c .args .more .now) in
     let b = length-take i fitting in
-    either-way (c .push .result) (c .push .ensures .cases)
-      (λ _ p. p .1 ∙ fill-more front fitting (items (c .loop-item .self)) i (c .item-item .result) (c .loop-item-test .taken) (c .item-item .is) (c .loop-item .inv))
-      (λ _ q. absurd (omega (arith, q .2)))
+    either-way (c .loop-item .self) (c .item-item .result) (c .push .last .self) (c .push .result) (c .push .ensures)
+      (λ e. e ∙ fill-more front fitting (items (c .loop-item .self)) i (c .item-item .result) (c .loop-item-test .taken) (c .item-item .is) (c .loop-item .inv))
+      (λ full. absurd (omega arith))
 
 pub returns : need.returns
 returns g c =

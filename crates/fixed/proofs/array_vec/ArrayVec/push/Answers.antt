@@ -11,11 +11,11 @@ pub returns-then-at-room : need.returns-then-at-room
 returns-then-at-room g c =
     let h : length (c .args .self .now .places) ≡ g .N = search needs in
     let l = length-take (c .args .self .now .len) (c .args .self .now .places) in
-    record { cases = (refl, refl, omega arith) }
+    (omega arith, refl, refl)
 
 pub returns : need.returns
 returns g c =
     let h : c .args .self .now .len < length (c .args .self .now .places) = omega arith in
     let n : length (c .args .self .now .places) ≡ g .N = search needs in
     let l = length-take (c .args .self .now .len) (c .args .self .now .places) in
-    record { cases = (omega arith, take-more-set _ _ _ h) }
+    (omega arith, take-more-set _ _ _ h)
