@@ -13,13 +13,8 @@ ghost use Rattle.chart_reader.specs.Verdicts.{Gives, more-rows, Rows-give, aut
 use super::field::Read;
 use super::field::field;
 use chart::drawing::Automaton;
-use chart::drawing::MOST_ACTIONS;
-use chart::drawing::MOST_DETERMINATORS;
-use chart::drawing::MOST_RESTRICTIONS;
-use chart::drawing::MOST_TERMS;
 use chart::drawing::Parent;
 use chart::drawing::State;
-use chart::drawing::Term;
 use chart::drawing::Transition;
 use chart::element::AutomatonIdElement;
 use chart::element::EventIdElement;
@@ -137,37 +132,17 @@ pub(super) impl Row for Transition as TransitionRow {
         text: &'a [u8],
     ) -> Result<Read<'a, Self>, TextFault> {
         let source = field::<Single<StateId>>(Key::From, counts.states, number, text)?;
-        let restriction = field::<ArrayVec<StateId, MOST_RESTRICTIONS>>(
-            Key::With,
-            counts.states,
-            number + 1,
-            source.rest,
-        )?;
+        let restriction = field(Key::With, counts.states, number + 1, source.rest)?;
         let trigger = field::<Single<EventId>>(
             Key::On,
             counts.events,
             number + 2,
             restriction.rest,
         )?;
-        let guard = field::<ArrayVec<Term, MOST_TERMS>>(
-            Key::If,
-            counts.states,
-            number + 3,
-            trigger.rest,
-        )?;
-        let actions = field::<ArrayVec<EventId, MOST_ACTIONS>>(
-            Key::Do,
-            counts.events,
-            number + 4,
-            guard.rest,
-        )?;
+        let guard = field(Key::If, counts.states, number + 3, trigger.rest)?;
+        let actions = field(Key::Do, counts.events, number + 4, guard.rest)?;
         let target = field::<Single<StateId>>(Key::To, counts.states, number + 5, actions.rest)?;
-        let determinator = field::<ArrayVec<StateId, MOST_DETERMINATORS>>(
-            Key::Into,
-            counts.states,
-            number + 6,
-            target.rest,
-        )?;
+        let determinator = field(Key::Into, counts.states, number + 6, target.rest)?;
         Ok(Read {
             item: Transition {
                 source: source.item.item,

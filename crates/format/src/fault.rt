@@ -58,18 +58,10 @@ impl TextFault {
             TextFault::Line(LineFault::Unended { .. }) => 2,
             TextFault::Line(LineFault::Overlong { .. }) => 3,
             TextFault::Line(LineFault::WrongKey { .. }) => 4,
-            TextFault::Line(
-                LineFault::Element {
-                    fault: ElementFault::Form { .. },
-                    ..
-                },
-            ) => 5,
-            TextFault::Line(
-                LineFault::Element {
-                    fault: ElementFault::Range { .. },
-                    ..
-                },
-            ) => 6,
+            TextFault::Line(LineFault::Element { fault, .. }) => match fault {
+                ElementFault::Form { .. } => 5,
+                ElementFault::Range { .. } => 6,
+            },
             TextFault::Trailing { .. } => 7,
         }
     }
@@ -93,18 +85,10 @@ impl TextFault {
         ensures { λ r. ⌜ r ≡ fault-element self ⌝ }
     {
         match self {
-            TextFault::Line(
-                LineFault::Element {
-                    fault: ElementFault::Form { element },
-                    ..
-                },
-            ) => Some(element),
-            TextFault::Line(
-                LineFault::Element {
-                    fault: ElementFault::Range { element },
-                    ..
-                },
-            ) => Some(element),
+            TextFault::Line(LineFault::Element { fault, .. }) => match fault {
+                ElementFault::Form { element } => Some(element),
+                ElementFault::Range { element } => Some(element),
+            },
             _ => None,
         }
     }

@@ -20,8 +20,8 @@ loop-item-again g c =
     let a = length-take k (c .args .more .now) in
     let b = length-take i fitting in
     either-way (c .loop-item .self) (c .item-item .result) (c .push .last .self) (c .push .result) (c .push .ensures)
-      (λ e. e ∙ fill-more front fitting (items (c .loop-item .self)) i (c .item-item .result) (c .loop-item-test .taken) (c .item-item .is) (c .loop-item .inv))
-      (λ full. absurd (omega arith))
+    (λ e. e ∙ fill-more front fitting (items (c .loop-item .self)) i (c .item-item .result) (c .loop-item-test .taken) (c .item-item .is) (c .loop-item .inv))
+    (λ full. absurd (omega arith))
 
 pub returns : need.returns
 returns g c =
