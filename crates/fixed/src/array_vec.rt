@@ -30,12 +30,7 @@ impl<T: Copy, const N: usize> ArrayVec<T, N> {
         ensures value { λ r. ⌜ r ≡ length (items (now (self .entry))) ⌝ }
         ensures bound { λ r. ⌜ r ≤ most N ⌝ }
     {
-        let room = self.places[..].len();
-        if (self.len as usize) < room {
-            self.len
-        } else {
-            room as u8
-        }
+        self.as_slice().len() as u8
     }
 
     // Whether no place is left.
@@ -47,33 +42,29 @@ impl<T: Copy, const N: usize> ArrayVec<T, N> {
 
     // The items, in their order.
     pub fn as_slice(&self) -> &[T]
-        ensures { λ r. ⌜ now r ≡ items (now (self .entry)) ⌝ }
+        ensures value { λ r. ⌜ now r ≡ items (now (self .entry)) ⌝ }
+        ensures bound { λ r. ⌜ length (now r) ≤ most N ⌝ }
     {
-        let all = &self.places[..];
-        let len = all.len().min(self.len as usize);
-        &all[0..len]
+        front(&self.places[..], self.len as usize)
     }
 
     // The last item, where there is one.
     pub fn last(&self) -> Option<T>
         ensures { λ r. ⌜ r ≡ last-of (items (now (self .entry))) ⌝ }
     {
-        let items = self.as_slice();
-        let len = items.len();
-        if len == 0 { None } else { Some(items[len - 1]) }
+        last_item(self.as_slice())
     }
 
     // One item more, behind the others. Where there is no place left, the item comes back and the list stays.
     pub fn push(&mut self, item: T) -> Result<(), T>
         ensures { λ r. ⌜ Pushed (now (self .entry)) item (now (self .exit)) r ⌝ }
     {
-        let at = self.len as usize;
-        let room = self.places[..].len().min(u8::MAX as usize);
-        if at >= room {
+        let at = self.len();
+        if at as usize >= N.min(u8::MAX as usize) {
             return Err(item);
         }
-        self.places[at] = item;
-        self.len += 1;
+        self.places[at as usize] = item;
+        self.len = at + 1;
         Ok(())
     }
 
@@ -87,4 +78,21 @@ impl<T: Copy, const N: usize> ArrayVec<T, N> {
             let _ = self.push(*item);
         }
     }
+}
+
+// The first `len` items, or all if there are fewer.
+fn front<T>(all: &[T], len: usize) -> &[T]
+    ensures value { λ r. ⌜ now r ≡ take len (now (all .entry)) ⌝ }
+    ensures bound { λ r. ⌜ (length (now r) ≤ len) × (length (now r) ≤ length (now (all .entry))) ⌝ }
+{
+    let fitting = all.len().min(len);
+    &all[0..fitting]
+}
+
+// The last item, where there is one.
+fn last_item<T: Copy>(items: &[T]) -> Option<T>
+    ensures { λ r. ⌜ r ≡ last-of (now (items .entry)) ⌝ }
+{
+    let len = items.len();
+    if len == 0 { None } else { Some(items[len - 1]) }
 }

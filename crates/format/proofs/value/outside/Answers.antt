@@ -15,17 +15,17 @@ pub returns-then-not-is-inside : need.returns-then-not-is-inside
 returns-then-not-is-inside g c =
     let xs = items (c .args .list .now) in
     let e = c .index-items-i .result in
-    let n = ap length (c .as-slice-items .ensures) in
+    let n = ap length (c .as-slice-items .ensures .value) in
     sym (outside-more (g .E·Element .kind .inside (c .args .limit)) xs (c .loop-i .i) e false (omega arith)
-    (c .index-items-i .is ∙ ap (λ ys. getD ys (c .loop-i .i) e) (c .as-slice-items .ensures)) (c .if-not-is-inside .ensures tt)) ∙ c .loop-i .inv
+    (c .index-items-i .is ∙ ap (λ ys. getD ys (c .loop-i .i) e) (c .as-slice-items .ensures .value)) (c .if-not-is-inside .ensures tt)) ∙ c .loop-i .inv
 
 pub loop-i-again : need.loop-i-again
 loop-i-again g c =
     let xs = items (c .args .list .now) in
     let e = c .index-items-i .result in
-    let n = ap length (c .as-slice-items .ensures) in
+    let n = ap length (c .as-slice-items .ensures .value) in
     sym (outside-more (g .E·Element .kind .inside (c .args .limit)) xs (c .loop-i .i) e true (omega arith)
-    (c .index-items-i .is ∙ ap (λ ys. getD ys (c .loop-i .i) e) (c .as-slice-items .ensures)) (c .if-not-is-inside .ensures tt)) ∙ c .loop-i .inv
+    (c .index-items-i .is ∙ ap (λ ys. getD ys (c .loop-i .i) e) (c .as-slice-items .ensures .value)) (c .if-not-is-inside .ensures tt)) ∙ c .loop-i .inv
 
 pub returns : need.returns
 returns g c =

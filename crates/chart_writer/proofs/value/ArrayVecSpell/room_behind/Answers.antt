@@ -18,7 +18,7 @@ returns-in-Break-left g c =
     c .from-residual .ensures
     ∙ left-none (c .args .room) (c .loop-index .left) (list-text k (take (c .loop-index .index) xs)) w (list-text k xs) (c .loop-index .inv) (c .in-Break-left .ensures tt)
     (list-fits k xs (c .loop-index .index) (c .index-list-index .result) w (c .loop-index-test .taken) (c .index-list-index .is) q)
-    ∙ ap (λ ys. left-of (c .args .room) (length (list-text k ys))) (c .as-slice-list .ensures)
+    ∙ ap (λ ys. left-of (c .args .room) (length (list-text k ys))) (c .as-slice-list .ensures .value)
 
 pub loop-index-again : need.loop-index-again
 loop-index-again g c =
@@ -36,4 +36,4 @@ returns g c =
     let k = g .E·Element .kind in
     c .loop-index .inv
     ∙ ap (λ ys. left-of (c .args .room) (length (list-text k ys)))
-    (take-all (c .loop-index .index) (c .as-slice-list .result .now) (c .loop-index-test .left) ∙ c .as-slice-list .ensures)
+    (take-all (c .loop-index .index) (c .as-slice-list .result .now) (c .loop-index-test .left) ∙ c .as-slice-list .ensures .value)
