@@ -1,6 +1,6 @@
 -- What a report tells of a text. Assumes nothing.
 --     Sums p n s       the summary s has the counts of the plan p, and n bytes were written
---     Returned b t o r the answer r whether the bytes b are the text t: in a buffer o that is as long as the text it is yes where they are
+--     Returned b t o r the answer r whether the bytes b are the text t, by way of a buffer o that is as long as the text
 --     Told x n r       the report r of a text of n bytes, of which the reader makes x: no chart comes back changed
 use mathlib.Core.Bool.{Bool, true}
 use mathlib.Core.List.{List}
@@ -24,7 +24,7 @@ pub record Sums (p : Plan) (n : ℕ) (s : Summary) : Type 0 where
   pub written : s .written ≡ n
 
 abbrev pub Returned : List ℕ → List ℕ → List ℕ → Bool → Type 0
-Returned bytes text out r = length out ≡ length text → bytes ≡ text → r ≡ true
+Returned bytes text out r = length out ≡ length text → (bytes ≡ text → r ≡ true) × (r ≡ true → bytes ≡ text)
 
 abbrev pub Told : Result Plan TextFault → ℕ → Report → Type 0
 Told (Ok p) n (Accepted s) = Sums p n s

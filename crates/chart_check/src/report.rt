@@ -69,7 +69,12 @@ fn comes_back(drawing: &Drawing, text: &[u8], out: &mut [u8]) -> bool
     ensures { λ r. ⌜ Returned (text-of (plan-of (now (drawing .entry)))) (now (text .entry)) (now (out .entry)) r ⌝ }
 {
     match write(drawing, out) {
-        Ok(_) => &out[..] == text,
+        Ok(count) => {
+            if count != text.len() {
+                return false;
+            }
+            &out[..] == text
+        }
         Err(_) => false,
     }
 }

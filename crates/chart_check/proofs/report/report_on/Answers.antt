@@ -8,4 +8,4 @@ pub returns-in-Ok : need.returns-in-Ok
 returns-in-Ok c =
     let long = c .as-mut-slice .ensures .len ∙ c .in-Continue-out .ensures tt .made .1 in
     let same = c .in-Ok .ensures tt .back (c .args .text .now) (plan-of (c .in-Ok .drawing)) (sym (c .in-Ok .ensures tt .answer)) in
-    absurd (true≢false (sym (c .if-comes-back .ensures tt long same)))
+    absurd (true≢false (sym (c .if-comes-back .ensures tt long .0 same)))
