@@ -28,45 +28,45 @@ use Rattle.chart_text.specs.Keys.{key-text}
 use Rattle.chart_text.specs.Texts.{counts-of, line-text, automaton-text, state-text, transition-text, text-of, Good-automaton, Good-transition, From-to, Within}
 use Rattle.chart_text.specs.declared.count.Counts.{Counts}
 use Rattle.chart_text.specs.declared.line.Key.{Key}
-use Rattle.chart_text.specs.declared.line.Key as key
+use Rattle.chart_text.specs.declared.line.Key.the-variants.{Chart, Events, Automata, States, Transitions, Under, First, In, From, With, On, If, Do, To, Into}
 use Rattle.chart_text.proofs.Counts.{positive-exact, natural-exact}
 use Rattle.chart_reader.specs.Verdicts.{one, some, automaton, automaton-lines, state, state-lines, TransitionParts, transition, transition-lines, Rows, rows, PlanParts, plan, counted, drawn, due-end, verdict, Spelled, Exactly, Gives-back, One-text}
 
 -- ---- the keys
 
 key-free : (k : Key) → Free 10 (key-text k)
-key-free key.the-variants.Chart = omega arith
-key-free key.the-variants.Events = omega arith
-key-free key.the-variants.Automata = omega arith
-key-free key.the-variants.States = omega arith
-key-free key.the-variants.Transitions = omega arith
-key-free key.the-variants.Under = omega arith
-key-free key.the-variants.First = omega arith
-key-free key.the-variants.In = omega arith
-key-free key.the-variants.From = omega arith
-key-free key.the-variants.With = omega arith
-key-free key.the-variants.On = omega arith
-key-free key.the-variants.If = omega arith
-key-free key.the-variants.Do = omega arith
-key-free key.the-variants.To = omega arith
-key-free key.the-variants.Into = omega arith
+key-free Chart = omega arith
+key-free Events = omega arith
+key-free Automata = omega arith
+key-free States = omega arith
+key-free Transitions = omega arith
+key-free Under = omega arith
+key-free First = omega arith
+key-free In = omega arith
+key-free From = omega arith
+key-free With = omega arith
+key-free On = omega arith
+key-free If = omega arith
+key-free Do = omega arith
+key-free To = omega arith
+key-free Into = omega arith
 
 key-short : (k : Key) → length (key-text k) ≤ 16
-key-short key.the-variants.Chart = omega arith
-key-short key.the-variants.Events = omega arith
-key-short key.the-variants.Automata = omega arith
-key-short key.the-variants.States = omega arith
-key-short key.the-variants.Transitions = omega arith
-key-short key.the-variants.Under = omega arith
-key-short key.the-variants.First = omega arith
-key-short key.the-variants.In = omega arith
-key-short key.the-variants.From = omega arith
-key-short key.the-variants.With = omega arith
-key-short key.the-variants.On = omega arith
-key-short key.the-variants.If = omega arith
-key-short key.the-variants.Do = omega arith
-key-short key.the-variants.To = omega arith
-key-short key.the-variants.Into = omega arith
+key-short Chart = omega arith
+key-short Events = omega arith
+key-short Automata = omega arith
+key-short States = omega arith
+key-short Transitions = omega arith
+key-short Under = omega arith
+key-short First = omega arith
+key-short In = omega arith
+key-short From = omega arith
+key-short With = omega arith
+key-short On = omega arith
+key-short If = omega arith
+key-short Do = omega arith
+key-short To = omega arith
+key-short Into = omega arith
 
 -- ---- the lines
 
@@ -118,8 +118,8 @@ name-whole = record {
 automaton-lines-exact : (c : Counts) → c .states ≤ 100 → Exact (automaton-lines c) (Good-automaton c) automaton-text
 automaton-lines-exact c s =
     named-exact automaton (λ (a : Automaton). (a .parent, a .initial)) _ _ _ (Good-automaton c)
-    (both-exact 1 _ _ _ _ _ _ (one-exact parent-kind 3 (c .states) key.the-variants.Under parent-exact (omega arith) s) (λ _ _.
-    one-exact state-kind 2 (c .states) key.the-variants.First state-exact (omega arith) s))
+    (both-exact 1 _ _ _ _ _ _ (one-exact parent-kind 3 (c .states) Under parent-exact (omega arith) s) (λ _ _.
+    one-exact state-kind 2 (c .states) First state-exact (omega arith) s))
     (λ x h. refl) (λ a. refl)
     (λ x h. record { parent = h .0; initial = ltb-true (x .1 .0) (c .states) (h .1) })
     (λ a h. (h .parent, lt-ltb (a .initial .0) (c .states) (h .initial)))
@@ -127,7 +127,7 @@ automaton-lines-exact c s =
 state-lines-exact : (c : Counts) → c .automata ≤ 100 → Exact (state-lines c) (λ s. s .automaton .0 < c .automata) state-text
 state-lines-exact c a =
     named-exact state (λ (s : State). s .automaton) _ _ _ (λ s. s .automaton .0 < c .automata)
-    (one-exact automaton-kind 2 (c .automata) key.the-variants.In automaton-exact (omega arith) a)
+    (one-exact automaton-kind 2 (c .automata) In automaton-exact (omega arith) a)
     (λ x h. refl) (λ s. refl) (λ x h. ltb-true (x .0) (c .automata) h) (λ s h. lt-ltb (s .automaton .0) (c .automata) h)
 
 abbrev transition-parts : TransitionPlan → TransitionParts
@@ -136,13 +136,13 @@ transition-parts t = (t .source, (t .restriction, (t .trigger, (t .guard, (t .ac
 transition-lines-exact : (c : Counts) → c .events ≤ 100 → c .states ≤ 100 → Exact (transition-lines c) (Good-transition c) transition-text
 transition-lines-exact c e s =
     named-exact transition transition-parts _ _ _ (Good-transition c)
-    (both-exact 1 _ _ _ _ _ _ (one-exact state-kind 2 (c .states) key.the-variants.From state-exact (omega arith) s) (λ _ _.
-    both-exact 1 _ _ _ _ _ _ (some-exact state-kind 2 8 (c .states) key.the-variants.With state-exact (omega arith) s) (λ _ _.
-    both-exact 1 _ _ _ _ _ _ (one-exact event-kind 2 (c .events) key.the-variants.On event-exact (omega arith) e) (λ _ _.
-    both-exact 1 _ _ _ _ _ _ (some-exact term-kind 3 8 (c .states) key.the-variants.If term-exact (omega arith) s) (λ _ _.
-    both-exact 1 _ _ _ _ _ _ (some-exact event-kind 2 8 (c .events) key.the-variants.Do event-exact (omega arith) e) (λ _ _.
-    both-exact 1 _ _ _ _ _ _ (one-exact state-kind 2 (c .states) key.the-variants.To state-exact (omega arith) s) (λ _ _.
-    some-exact state-kind 2 24 (c .states) key.the-variants.Into state-exact (omega arith) s)))))))
+    (both-exact 1 _ _ _ _ _ _ (one-exact state-kind 2 (c .states) From state-exact (omega arith) s) (λ _ _.
+    both-exact 1 _ _ _ _ _ _ (some-exact state-kind 2 8 (c .states) With state-exact (omega arith) s) (λ _ _.
+    both-exact 1 _ _ _ _ _ _ (one-exact event-kind 2 (c .events) On event-exact (omega arith) e) (λ _ _.
+    both-exact 1 _ _ _ _ _ _ (some-exact term-kind 3 8 (c .states) If term-exact (omega arith) s) (λ _ _.
+    both-exact 1 _ _ _ _ _ _ (some-exact event-kind 2 8 (c .events) Do event-exact (omega arith) e) (λ _ _.
+    both-exact 1 _ _ _ _ _ _ (one-exact state-kind 2 (c .states) To state-exact (omega arith) s) (λ _ _.
+    some-exact state-kind 2 24 (c .states) Into state-exact (omega arith) s)))))))
     (λ x h. refl) (λ t. refl)
     (λ x h. record {
       source = ltb-true (x .0 .0) (c .states) (h .0);
@@ -202,11 +202,11 @@ positive-from low high n l h = and-from (leb low n) (ltb n high) (le-leb low n l
 drawn-exact : Exact drawn Within text-of
 drawn-exact =
     named-exact plan plan-parts _ _ _ Within
-    (both-exact 1 _ _ _ _ _ _ (field-exact name-of Named (λ v. v) (key-text key.the-variants.Chart) name-whole (key-free key.the-variants.Chart) (key-short key.the-variants.Chart)) (λ _ _.
-    both-exact 1 _ _ _ _ _ _ (one-exact positive-kind 2 65 key.the-variants.Events positive-exact (omega arith) (omega arith)) (λ e he.
-    both-exact 1 _ _ _ _ _ _ (one-exact positive-kind 2 25 key.the-variants.Automata positive-exact (omega arith) (omega arith)) (λ a ha.
-    both-exact 1 _ _ _ _ _ _ (one-exact positive-kind 2 65 key.the-variants.States positive-exact (omega arith) (omega arith)) (λ s hs.
-    both-exact 1 _ _ _ _ _ _ (one-exact natural-kind 2 97 key.the-variants.Transitions natural-exact (omega arith) (omega arith)) (λ t _.
+    (both-exact 1 _ _ _ _ _ _ (field-exact name-of Named (λ v. v) (key-text Chart) name-whole (key-free Chart) (key-short Chart)) (λ _ _.
+    both-exact 1 _ _ _ _ _ _ (one-exact positive-kind 2 65 Events positive-exact (omega arith) (omega arith)) (λ e he.
+    both-exact 1 _ _ _ _ _ _ (one-exact positive-kind 2 25 Automata positive-exact (omega arith) (omega arith)) (λ a ha.
+    both-exact 1 _ _ _ _ _ _ (one-exact positive-kind 2 65 States positive-exact (omega arith) (omega arith)) (λ s hs.
+    both-exact 1 _ _ _ _ _ _ (one-exact natural-kind 2 97 Transitions natural-exact (omega arith) (omega arith)) (λ t _.
     rows-exact (counted e a s) (t .0) (omega (arith, positive-bounds 1 65 (e .0) he .1)) (omega (arith, positive-bounds 1 25 (a .0) ha .1)) (omega (arith, positive-bounds 1 65 (s .0) hs .1))))))))
     (λ x h.
     let r = h .1 .1 .1 .1 .1 in

@@ -24,8 +24,9 @@ use Rattle.chart_text.specs.Keys.{key-text}
 use Rattle.chart_text.specs.declared.count.Counts.{Counts}
 use Rattle.chart_text.specs.declared.count.Positive.{Positive}
 use Rattle.chart_text.specs.declared.count.Natural.{Natural}
-use Rattle.chart_text.specs.declared.line.Key as key
-use Rattle.chart_reader.specs.Verdicts.{Rows-give, one, automaton-lines, state-lines, transition-lines, Rows, rows, rows-in, Blank, Rows-read, Filled, PlanParts, plan, counted, drawn, due-end, read-through}
+use Rattle.chart_text.specs.declared.line.Key.the-variants.{Chart, Events, Automata, States, Transitions}
+use Rattle.chart_reader.specs.Inner.{Rows-give, rows-in, Blank, Rows-read, Filled}
+use Rattle.chart_reader.specs.Verdicts.{one, automaton-lines, state-lines, transition-lines, Rows, rows, PlanParts, plan, counted, drawn, due-end, read-through}
 
 -- one part, with what the next part gives
 abbrev pub paired : {A B : Type 0} → A → Result (B × List ℕ) TextFault → Result ((A × B) × List ℕ) TextFault
@@ -71,31 +72,31 @@ filled x before after w e none n v (Err f) h = e ∙ ap (λ w. paired (items (af
 -- ---- the head
 
 abbrev pub from-transitions : Positive → Positive → Positive → Reader (Natural × Rows)
-from-transitions e a s = both 1 (one natural-kind 97 key.the-variants.Transitions) (λ k. rows (counted e a s) (k .0))
+from-transitions e a s = both 1 (one natural-kind 97 Transitions) (λ k. rows (counted e a s) (k .0))
 
 abbrev pub from-states : Positive → Positive → Reader (Positive × (Natural × Rows))
-from-states e a = both 1 (one positive-kind 65 key.the-variants.States) (λ s. from-transitions e a s)
+from-states e a = both 1 (one positive-kind 65 States) (λ s. from-transitions e a s)
 
 abbrev pub from-automata : Positive → Reader (Positive × (Positive × (Natural × Rows)))
-from-automata e = both 1 (one positive-kind 25 key.the-variants.Automata) (λ a. from-states e a)
+from-automata e = both 1 (one positive-kind 25 Automata) (λ a. from-states e a)
 
 abbrev pub from-events : Reader (Positive × (Positive × (Positive × (Natural × Rows))))
-from-events = both 1 (one positive-kind 65 key.the-variants.Events) (λ e. from-automata e)
+from-events = both 1 (one positive-kind 65 Events) (λ e. from-automata e)
 
 module _ (t r1 r2 r3 r4 r5 : List ℕ) (n : List ℕ) (e a s : Positive) (k : Natural)
-    (h1 : value-at name-of (key-text key.the-variants.Chart) 1 t ≡ Ok (n, r1))
-    (h2 : value-at (single-of positive-kind 65) (key-text key.the-variants.Events) 2 r1 ≡ Ok (e, r2))
-    (h3 : value-at (single-of positive-kind 25) (key-text key.the-variants.Automata) 3 r2 ≡ Ok (a, r3))
-    (h4 : value-at (single-of positive-kind 65) (key-text key.the-variants.States) 4 r3 ≡ Ok (s, r4))
-    (h5 : value-at (single-of natural-kind 97) (key-text key.the-variants.Transitions) 5 r4 ≡ Ok (k, r5)) where
+    (h1 : value-at name-of (key-text Chart) 1 t ≡ Ok (n, r1))
+    (h2 : value-at (single-of positive-kind 65) (key-text Events) 2 r1 ≡ Ok (e, r2))
+    (h3 : value-at (single-of positive-kind 25) (key-text Automata) 3 r2 ≡ Ok (a, r3))
+    (h4 : value-at (single-of positive-kind 65) (key-text States) 4 r3 ≡ Ok (s, r4))
+    (h5 : value-at (single-of natural-kind 97) (key-text Transitions) 5 r4 ≡ Ok (k, r5)) where
   drawn-head : drawn 1 t ≡ and-then (paired n (paired e (paired a (paired s (paired k (rows (counted e a s) (k .0) 6 r5)))))) (λ x. Ok (plan (x .0), x .1))
   drawn-head =
       ap (λ w. and-then w (λ x. Ok (plan (x .0), x .1)))
-      (both-step 1 (field name-of (key-text key.the-variants.Chart)) (λ _. from-events) 1 t n r1 (ap in-text h1) ∙ ap (paired n)
-      (both-step 1 (one positive-kind 65 key.the-variants.Events) from-automata 2 r1 e r2 (ap in-text h2) ∙ ap (paired e)
-      (both-step 1 (one positive-kind 25 key.the-variants.Automata) (from-states e) 3 r2 a r3 (ap in-text h3) ∙ ap (paired a)
-      (both-step 1 (one positive-kind 65 key.the-variants.States) (from-transitions e a) 4 r3 s r4 (ap in-text h4) ∙ ap (paired s)
-      (both-step 1 (one natural-kind 97 key.the-variants.Transitions) (λ k. rows (counted e a s) (k .0)) 5 r4 k r5 (ap in-text h5))))))
+      (both-step 1 (field name-of (key-text Chart)) (λ _. from-events) 1 t n r1 (ap in-text h1) ∙ ap (paired n)
+      (both-step 1 (one positive-kind 65 Events) from-automata 2 r1 e r2 (ap in-text h2) ∙ ap (paired e)
+      (both-step 1 (one positive-kind 25 Automata) (from-states e) 3 r2 a r3 (ap in-text h3) ∙ ap (paired a)
+      (both-step 1 (one positive-kind 65 States) (from-transitions e a) 4 r3 s r4 (ap in-text h4) ∙ ap (paired s)
+      (both-step 1 (one natural-kind 97 Transitions) (λ k. rows (counted e a s) (k .0)) 5 r4 k r5 (ap in-text h5))))))
 
   pub drawn-done : (before after : Drawing) (rest : List ℕ) → Rows-read (rows (counted e a s) (k .0) 6 r5) before after rest
       → items (before .name .bytes) ≡ n → before .events ≡ e .0 → drawn 1 t ≡ Ok (plan-of after, rest)

@@ -1,3 +1,3 @@
-pub mod Places
+pub mod Inner
 pub mod Refusals
 pub mod Verdicts

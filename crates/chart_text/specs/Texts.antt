@@ -18,7 +18,7 @@ use Rattle.chart_text.specs.Keys.{key-text}
 use Rattle.chart.specs.Kinds.{state-kind, automaton-kind, event-kind, term-kind, parent-kind, Named}
 use Rattle.chart_text.specs.declared.count.Counts.{Counts}
 use Rattle.chart_text.specs.declared.line.Key.{Key}
-use Rattle.chart_text.specs.declared.line.Key as key
+use Rattle.chart_text.specs.declared.line.Key.the-variants.{Chart, Events, Automata, States, Transitions, Under, First, In, From, With, On, If, Do, To, Into}
 
 abbrev pub counts-of : Plan → Counts
 counts-of p = record { events = p .events; automata = length (p .automata); states = length (p .states) }
@@ -27,28 +27,28 @@ abbrev pub line-text : Key → List ℕ → List ℕ
 line-text k v = key-text k ++ (v ++ (10 ∷ []))
 
 abbrev pub automaton-text : Automaton → List ℕ
-automaton-text a = line-text key.the-variants.Under (parent-kind .spell (a .parent)) ++ line-text key.the-variants.First (state-kind .spell (a .initial))
+automaton-text a = line-text Under (parent-kind .spell (a .parent)) ++ line-text First (state-kind .spell (a .initial))
 
 abbrev pub state-text : State → List ℕ
-state-text s = line-text key.the-variants.In (automaton-kind .spell (s .automaton))
+state-text s = line-text In (automaton-kind .spell (s .automaton))
 
 abbrev pub transition-text : TransitionPlan → List ℕ
 transition-text t =
-    line-text key.the-variants.From (state-kind .spell (t .source))
-    ++ (line-text key.the-variants.With (list-text state-kind (t .restriction))
-    ++ (line-text key.the-variants.On (event-kind .spell (t .trigger))
-    ++ (line-text key.the-variants.If (list-text term-kind (t .guard))
-    ++ (line-text key.the-variants.Do (list-text event-kind (t .actions))
-    ++ (line-text key.the-variants.To (state-kind .spell (t .target))
-    ++ line-text key.the-variants.Into (list-text state-kind (t .determinator)))))))
+    line-text From (state-kind .spell (t .source))
+    ++ (line-text With (list-text state-kind (t .restriction))
+    ++ (line-text On (event-kind .spell (t .trigger))
+    ++ (line-text If (list-text term-kind (t .guard))
+    ++ (line-text Do (list-text event-kind (t .actions))
+    ++ (line-text To (state-kind .spell (t .target))
+    ++ line-text Into (list-text state-kind (t .determinator)))))))
 
 abbrev pub text-of : Plan → List ℕ
 text-of p =
-    line-text key.the-variants.Chart (p .name)
-    ++ (line-text key.the-variants.Events (spelled (p .events))
-    ++ (line-text key.the-variants.Automata (spelled (length (p .automata)))
-    ++ (line-text key.the-variants.States (spelled (length (p .states)))
-    ++ (line-text key.the-variants.Transitions (spelled (length (p .transitions)))
+    line-text Chart (p .name)
+    ++ (line-text Events (spelled (p .events))
+    ++ (line-text Automata (spelled (length (p .automata)))
+    ++ (line-text States (spelled (length (p .states)))
+    ++ (line-text Transitions (spelled (length (p .transitions)))
     ++ (joined automaton-text (p .automata)
     ++ (joined state-text (p .states)
     ++ joined transition-text (p .transitions)))))))

@@ -14,7 +14,7 @@ use Rattle.chart.specs.declared.drawing.State.{State}
 use Rattle.chart.specs.declared.drawing.Transition.{Transition}
 use Rattle.chart.specs.declared.drawing.Drawing.{Drawing}
 use Rattle.chart_text.specs.Texts.{line-text, automaton-text, state-text, transition-text, text-of}
-use Rattle.chart_text.specs.declared.line.Key as key
+use Rattle.chart_text.specs.declared.line.Key.the-variants.{Chart, Events, Automata, States, Transitions}
 use Rattle.chart_writer.specs.Writes.{Written}
 
 -- the same text, said in another way
@@ -31,11 +31,11 @@ joined-map f m (x ∷ xs) = ap (λ ys. f (m x) ++ ys) (joined-map f m xs)
 -- name, counts and rows as the code has them
 abbrev parts : List ℕ → ℕ → ℕ → ℕ → ℕ → List ℕ → List ℕ → List ℕ → List ℕ
 parts name events a s t automata states transitions =
-    line-text key.the-variants.Chart name
-    ++ (line-text key.the-variants.Events (spelled events)
-    ++ (line-text key.the-variants.Automata (spelled a)
-    ++ (line-text key.the-variants.States (spelled s)
-    ++ (line-text key.the-variants.Transitions (spelled t)
+    line-text Chart name
+    ++ (line-text Events (spelled events)
+    ++ (line-text Automata (spelled a)
+    ++ (line-text States (spelled s)
+    ++ (line-text Transitions (spelled t)
     ++ (automata ++ (states ++ transitions))))))
 
 pub text-is : (d : Drawing) (name : List ℕ) (a s t : ℕ) (automata : List Automaton) (states : List State) (transitions : List Transition)
@@ -44,8 +44,8 @@ pub text-is : (d : Drawing) (name : List ℕ) (a s t : ℕ) (automata : List Aut
     → parts name (d .events) a s t (joined automaton-text automata) (joined state-text states) (joined (λ x. transition-text (transition-plan x)) transitions)
     ≡ text-of (plan-of d)
 text-is d name a s t automata states transitions p q r u v w z =
-    also (ap (line-text key.the-variants.Chart) p) (ap (λ ys. line-text key.the-variants.Events (spelled (d .events)) ++ ys)
-    (also (ap (λ n. line-text key.the-variants.Automata (spelled n)) q) (also (ap (λ n. line-text key.the-variants.States (spelled n)) r)
-    (also (ap (λ n. line-text key.the-variants.Transitions (spelled n)) (u ∙ sym (length-map (items (d .transitions)) transition-plan)))
+    also (ap (line-text Chart) p) (ap (λ ys. line-text Events (spelled (d .events)) ++ ys)
+    (also (ap (λ n. line-text Automata (spelled n)) q) (also (ap (λ n. line-text States (spelled n)) r)
+    (also (ap (λ n. line-text Transitions (spelled n)) (u ∙ sym (length-map (items (d .transitions)) transition-plan)))
     (also (ap (joined automaton-text) v) (also (ap (joined state-text) w)
     (ap (joined (λ x. transition-text (transition-plan x))) z ∙ joined-map transition-text transition-plan (items (d .transitions)))))))))
