@@ -90,9 +90,9 @@ fn front<T>(all: &[T], len: usize) -> &[T]
 }
 
 // The last item, where there is one.
-fn last_item<T: Copy>(items: &[T]) -> Option<T>
-    ensures { λ r. ⌜ r ≡ last-of (now (items .entry)) ⌝ }
+fn last_item<T: Copy>(all: &[T]) -> Option<T>
+    ensures { λ r. ⌜ r ≡ last-of (now (all .entry)) ⌝ }
 {
-    let len = items.len();
-    if len == 0 { None } else { Some(items[len - 1]) }
+    let len = all.len();
+    if len == 0 { None } else { Some(all[len - 1]) }
 }

@@ -58,26 +58,28 @@ fn list<T: Copy, const N: usize>(filler: T, items: &[T]) -> ArrayVec<T, N> {
     list
 }
 
-// A drawing that was read from no text.
-fn made_by_hand() -> Drawing {
+// A transition with every list in use.
+fn transition() -> Transition {
     let state = StateId(0);
-    let transition = Transition {
+    let guard = [
+        Term::Active(StateId(5)),
+        Term::Inactive(StateId(60)),
+        Term::Holds(ConditionId(7)),
+        Term::Fails(ConditionId(31)),
+    ];
+    Transition {
         source: StateId(1),
         source_restriction: list(state, &[StateId(2), StateId(30)]),
         trigger: EventId(4),
-        guard: list(
-            Term::Active(state),
-            &[
-                Term::Active(StateId(5)),
-                Term::Inactive(StateId(60)),
-                Term::Holds(ConditionId(7)),
-                Term::Fails(ConditionId(31)),
-            ],
-        ),
+        guard: list(Term::Active(state), &guard),
         actions: list(EventId(0), &[EventId(8), EventId(8)]),
         target: StateId(9),
         target_determinator: list(state, &[StateId(10), StateId(63)]),
-    };
+    }
+}
+
+// A drawing that was read from no text.
+fn made_by_hand() -> Drawing {
     let top = Automaton {
         parent: Parent::Top,
         initial: StateId(3),
@@ -86,21 +88,16 @@ fn made_by_hand() -> Drawing {
         parent: Parent::State(StateId(12)),
         initial: StateId(45),
     };
+    let state = State {
+        automaton: AutomatonId(1),
+    };
+    let bytes = list(b'_', b"by_hand");
     Drawing {
-        name: Name {
-            bytes: list(b'_', b"by_hand"),
-        },
+        name: Name { bytes },
         events: 10,
         automata: list(top, &[top, inner]),
-        states: list(
-            State {
-                automaton: AutomatonId(0),
-            },
-            &[State {
-                automaton: AutomatonId(1),
-            }],
-        ),
-        transitions: list(transition, &[transition]),
+        states: list(state, &[state]),
+        transitions: list(transition(), &[transition()]),
     }
 }
 

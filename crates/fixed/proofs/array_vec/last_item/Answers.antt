@@ -9,8 +9,8 @@ use Rattle.fixed.proofs.Lasts.{last-read}
 use Rattle.fixed.proofs.array_vec.last_item.Needs as need
 
 pub returns-then-len-eq0 : need.returns-then-len-eq0
-returns-then-len-eq0 g c = sym (ap last-of (nil-from-length (c .args .items .now) (omega arith)))
+returns-then-len-eq0 g c = sym (ap last-of (nil-from-length (c .args .all .now) (omega arith)))
 
 pub returns-else-len-eq0 : need.returns-else-len-eq0
 returns-else-len-eq0 g c =
-    let xs = c .args .items .now in last-read xs (c .index-items-len .result) (length xs - 1) (omega arith) (c .index-items-len .is)
+    let xs = c .args .all .now in last-read xs (c .index-all-len .result) (length xs - 1) (omega arith) (c .index-all-len .is)
