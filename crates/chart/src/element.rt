@@ -203,7 +203,7 @@ impl Element for Parent {
 fn is_top(bytes: &[u8]) -> bool
     ensures { result ≡ bytes_eq bytes.now (codes "top") }
 {
-    bytes == b"top"
+    bytes == b"top".as_slice()
 }
 
 // `top`.

@@ -1,4 +1,6 @@
 // What a chart is: automata under states, and the transitions between them.
+#![tactic(auto)]
+
 mod blank;
 pub mod drawing;
 pub mod element;

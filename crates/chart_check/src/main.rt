@@ -1,4 +1,6 @@
 // Checks the chart text chart.txt of the current folder, and prints what the chart holds or why it is refused.
+#![tactic(auto)]
+
 use self::report::{Report, report_on};
 use std::fs::File;
 use std::io;

@@ -1,4 +1,6 @@
 // Chart texts written: a drawing's text, straight into the caller's buffer.
+#![tactic(auto)]
+
 ghost use Rattle.chart.specs.Plans.{plan_of};
 ghost use Rattle.chart_text.specs.Texts.{text_of};
 ghost use Rattle.chart_writer.specs.Writes.{Written};

@@ -1,4 +1,6 @@
 // Texts of `key=value` lines: bytes, numbers, lists of elements, and how a line is read. Nothing here knows of charts.
+#![tactic(auto)]
+
 pub mod bytes;
 pub mod element;
 pub mod fault;

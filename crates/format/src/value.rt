@@ -34,7 +34,7 @@ impl<E: Element> Value for Single<E> {
 
     ghost said = { λ s. s.item };
 
-    ghost reads = { single_of E.Element.kind };
+    ghost reads = { single_of E.kind };
 
     fn read(limit: u8, value: &[u8]) -> Result<Self, ElementFault> {
         let Some(item) = E::shape_of(value) else {
@@ -50,7 +50,7 @@ impl<E: Element> Value for Single<E> {
 
 // Whether the element may stand behind what comes before it.
 fn fits_behind<E: Element>(before: Option<E>, item: E) -> bool
-    ensures { result ≡ follows kind before item }
+    ensures { result ≡ follows E.kind before item }
 {
     match before {
         None => true,
@@ -63,7 +63,7 @@ fn next_element<E: Element, const N: usize>(
     list: &ArrayVec<E, N>,
     piece: &[u8],
 ) -> Result<E, ElementFault>
-    ensures { result ≡ next_of kind (most N) (items list.now) piece.now }
+    ensures { result ≡ next_of E.kind (most N) (items list.now) piece.now }
 {
     let element = list.len();
     if list.is_full() {
@@ -84,7 +84,7 @@ fn add<E: Element, const N: usize>(
     list: &mut ArrayVec<E, N>,
     piece: &[u8],
 ) -> Result<(), ElementFault>
-    ensures { GrownGives (grown kind (most N) (items list.old) piece.now) (items list.new) result }
+    ensures { GrownGives (grown E.kind (most N) (items list.old) piece.now) (items list.new) result }
 {
     let item = next_element(list, piece)?;
     match list.push(item) {
@@ -95,7 +95,7 @@ fn add<E: Element, const N: usize>(
 
 // The form of every element.
 fn formed_list<E: Element, const N: usize>(value: &[u8]) -> Result<ArrayVec<E, N>, ElementFault>
-    ensures { by items result ≡ formed kind (most N) 0 None (elements_of value.now) }
+    ensures { by items result ≡ formed E.kind (most N) 0 None (elements_of value.now) }
 {
     let mut list: ArrayVec<E, N> = ArrayVec::new(E::filler());
     if value.is_empty() {
@@ -112,7 +112,7 @@ fn formed_list<E: Element, const N: usize>(value: &[u8]) -> Result<ArrayVec<E, N
 
 // The first element outside its limits.
 fn outside<E: Element, const N: usize>(list: &ArrayVec<E, N>, limit: u8) -> Option<u8>
-    ensures { result ≡ first_outside (kind.inside limit) 0 (items list.now) }
+    ensures { result ≡ first_outside (E.kind.inside limit) 0 (items list.now) }
 {
     let items = list.as_slice();
     for i in 0..list.len() {
@@ -129,7 +129,7 @@ impl<E: Element, const N: usize> Value for ArrayVec<E, N> {
 
     ghost said = { items };
 
-    ghost reads = { list_of E.Element.kind (most N) };
+    ghost reads = { list_of E.kind (most N) };
 
     fn read(limit: u8, value: &[u8]) -> Result<Self, ElementFault> {
         let list: ArrayVec<E, N> = formed_list(value)?;

@@ -1,4 +1,6 @@
 // A set of numbers below 64, in one word: bit n, least first, for the number n.
+#![tactic(auto)]
+
 ghost use Rattle.std.specs.Prelude.{◌≡◌, ℕ, ◌<◌, ◌≤◌, true, false, not, ◌&&◌, ◌||◌, length, Decides, MatchOption, ◌==◌, nat_lt};
 ghost use Rattle.set64.specs.Sets.{has, members, Least};
 

@@ -1,4 +1,6 @@
 // Worked examples of chart texts: what reading and writing them has to give.
+#![tactic(auto)]
+
 #[cfg(test)]
 mod bytes;
 #[cfg(test)]
