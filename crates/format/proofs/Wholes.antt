@@ -1,14 +1,13 @@
 -- A whole value reads back from its spelling, and from nothing else: one element, and a list of elements. Assumes nothing.
-use Rattle.std.proofs.Common.{◌≡◌, ℕ, ◌+◌, ◌*◌, ◌<◌, ◌≤◌, Bool, true, false, cond, ltb, List, [], ◌∷◌, ◌++◌, map, length, Some, None, Ok, Err, Option, Result, sym, refl, ap, ◌∙◌, subst, ap₂, ⊎_elim, mul-le-mul_right, arith}
+use Rattle.std.proofs.Common.{◌≡◌, ℕ, ◌+◌, ◌*◌, ◌<◌, ◌≤◌, Bool, true, List, [], ◌∷◌, map, length, Some, None, Ok, Option, sym, refl, ap, ◌∙◌, subst, ap₂, ⊎_elim, mul-le-mul_right, arith}
 use Rattle.std.specs.List.{flat_map, AllByRecursion as All}
 use Rattle.std.proofs.ByRecursion.{All-append}
 use Rattle.std.proofs.lemmas.List.{length-append}
-use Rattle.std.proofs.lemmas.Bool.{cases_Bool, lt-ltb, ltb-true}
+use Rattle.std.proofs.lemmas.Bool.{cases_Bool, lt-ltb}
 use Rattle.std.specs.Option.{option_map}
 use Rattle.format.specs.Bytes.{Free, commas, elements_of, number_of}
-use Rattle.format.specs.Elements.{and_then, Kind, Spells, limited, single_of, follows, placed, formed_one, put_first, formed, first_outside, unless_outside, list_of, Ascends, GoodList, list_text}
+use Rattle.format.specs.Elements.{and_then, Kind, Spells, limited, single_of, placed, formed_one, put_first, formed, first_outside, unless_outside, list_of, Ascends, GoodList, list_text}
 use Rattle.format.specs.Readers.{Whole}
-use Rattle.format.specs.declared.fault.ElementFault.{ElementFault}
 use Rattle.format.specs.declared.fault.ElementFault.TheVariants.{Form, Range}
 use Rattle.format.proofs.Cuts.{pieces_commas, commas_pieces, elements_some}
 use Rattle.format.proofs.Numbers.{mapped_ok}

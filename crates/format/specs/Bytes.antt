@@ -7,7 +7,7 @@
 --     number_of v        the number that v is: one or two decimal digits, no leading zero
 --     spelled n          the digits of a number below 100
 --     Free b xs          no byte of xs is b
-use Rattle.std.specs.Prelude.{◌≡◌, ℕ, ◌+◌, ◌-◌, ◌*◌, ◌/◌, ◌%◌, Bool, cond, ◌&&◌, List, [], ◌∷◌, ◌++◌, Some, None, Option, ◌==◌, ◌≢◌, nat_le, nat_lt}
+use Rattle.std.specs.Prelude.{ℕ, ◌+◌, ◌-◌, ◌*◌, ◌/◌, ◌%◌, Bool, cond, ◌&&◌, List, [], ◌∷◌, ◌++◌, Some, None, Option, ◌==◌, ◌≢◌, nat_le, nat_lt}
 use Rattle.std.specs.List.{flat_map, AllByRecursion as All}
 
 abbrev pub Free : ℕ → List ℕ → Type 0

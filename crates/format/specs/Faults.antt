@@ -3,9 +3,7 @@
 --     fault_line f       the line that it names, counted from 1; 0 for the text as a whole
 --     fault_element f    the element that it names, counted from 0, where it names one
 use Rattle.std.specs.Prelude.{ℕ, Some, None, Option}
-use Rattle.format.specs.declared.fault.ElementFault.{ElementFault}
 use Rattle.format.specs.declared.fault.ElementFault.TheVariants.{Form, Range}
-use Rattle.format.specs.declared.fault.LineFault.{LineFault}
 use Rattle.format.specs.declared.fault.LineFault.TheVariants.{Unended, Overlong, WrongKey, Element}
 use Rattle.format.specs.declared.fault.TextFault.{TextFault}
 use Rattle.format.specs.declared.fault.TextFault.TheVariants.{Oversize, Line, Trailing}

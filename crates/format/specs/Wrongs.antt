@@ -5,7 +5,7 @@
 --     ListWrong k m l v f    the list v has the fault f: the first element out of form, or, where there is none, the
 --                             first outside its limits
 --     LineWrong k b n s f    line n, which begins s, has the fault f, where k is its key and b says what a value's faults are
-use Rattle.std.specs.Prelude.{◌≡◌, ℕ, ◌<◌, ◌≤◌, true, false, List, [], ◌∷◌, ◌++◌, map, length, Some, None, Option, ◌≢◌}
+use Rattle.std.specs.Prelude.{◌≡◌, ℕ, ◌<◌, ◌≤◌, true, false, List, ◌∷◌, ◌++◌, map, length, Some, None, ◌≢◌}
 use Rattle.std.specs.List.{AllByRecursion as All}
 use Rattle.fixed.specs.Items.{last_of}
 use Rattle.format.specs.Bytes.{Free, elements_of}

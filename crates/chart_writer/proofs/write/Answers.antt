@@ -5,9 +5,9 @@ use Rattle.chart_writer.proofs.write.Goals as goal
 
 pub returns : goal.returns
 returns c =
-    written_as {F = WriteFault} c.args.out.now c.write-whole.new.out c.write-whole.result
-    (text_is c.args.drawing.now c.as-slice.result.now c.len.result c.len-2.result c.len-3.result
-    c.as-slice-2.result.now c.as-slice-3.result.now c.as-slice-4.result.now
-    c.as-slice.ensures.value c.len.ensures.value c.len-2.ensures.value c.len-3.ensures.value
-    c.as-slice-2.ensures.value c.as-slice-3.ensures.value c.as-slice-4.ensures.value)
-    c.write-whole.ensures
+    written_as {F = WriteFault} c.args.out.now c.write_whole.new.out c.write_whole.result
+    (text_is c.args.drawing.now c.as_slice.result.now c.len.result c.len-2.result c.len-3.result
+    c.as_slice-2.result.now c.as_slice-3.result.now c.as_slice-4.result.now
+    c.as_slice.ensures.value c.len.ensures.value c.len-2.ensures.value c.len-3.ensures.value
+    c.as_slice-2.ensures.value c.as_slice-3.ensures.value c.as_slice-4.ensures.value)
+    c.write_whole.ensures

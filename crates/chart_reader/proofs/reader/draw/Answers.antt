@@ -7,24 +7,24 @@ use Rattle.chart.specs.Plans.{plan_of}
 use Rattle.chart_reader.specs.Verdicts.{drawn}
 use Rattle.chart_reader.proofs.Steps.{drawn_done, ended_well, ended_badly}
 use Rattle.chart_reader.proofs.reader.draw.Goals as goal
-use Rattle.chart_reader.proofs.reader.draw.Goals.{In-ok-rest, at·returns-then-is-empty, at·returns-else-is-empty}
+use Rattle.chart_reader.proofs.reader.draw.Goals.{In-ok-rest, at·returns-then-is_empty, at·returns-else-is_empty}
 
 -- both ends come behind all rows
-all_drawn : (c : In-ok-rest) → drawn 1 c.args.text.now ≡ Ok (plan_of c.fill.new.drawing, c.in-ok-rest.rest.now)
+all_drawn : (c : In-ok-rest) → drawn 1 c.args.text.now ≡ Ok (plan_of c.fill.new.drawing, c.in_ok-rest.rest.now)
 all_drawn c =
-    drawn_done c.args.text.now c.in-ok-name.name.rest.now c.in-ok-events.events.rest.now c.in-ok-automata.automata.rest.now
-    c.in-ok-states.states.rest.now c.in-ok-transitions.transitions.rest.now _ _ _ _ _
-    c.in-ok-name.ensures c.in-ok-events.ensures c.in-ok-automata.ensures c.in-ok-states.ensures c.in-ok-transitions.ensures
-    c.blank-drawing.result c.fill.new.drawing c.in-ok-rest.rest.now c.in-ok-rest.ensures
+    drawn_done c.args.text.now c.in_ok-name.name.rest.now c.in_ok-events.events.rest.now c.in_ok-automata.automata.rest.now
+    c.in_ok-states.states.rest.now c.in_ok-transitions.transitions.rest.now _ _ _ _ _
+    c.in_ok-name.ensures c.in_ok-events.ensures c.in_ok-automata.ensures c.in_ok-states.ensures c.in_ok-transitions.ensures
+    c.blank-drawing.result c.fill.new.drawing c.in_ok-rest.rest.now c.in_ok-rest.ensures
     (ap (λ n. items n.bytes) c.blank-drawing.ensures.head.0) c.blank-drawing.ensures.head.1
 
-pub returns-then-is-empty : goal.returns-then-is-empty
-returns-then-is-empty c =
-    sym (ended_well c.args.text.now (plan_of c.fill.new.drawing) c.in-ok-rest.rest.now (all_drawn (at·returns-then-is-empty c).In-ok-rest)
-    (eqb-true _ 0 (sym c.if-is-empty.ensures)))
+pub returns-then-is_empty : goal.returns-then-is_empty
+returns-then-is_empty c =
+    sym (ended_well c.args.text.now (plan_of c.fill.new.drawing) c.in_ok-rest.rest.now (all_drawn (at·returns-then-is_empty c).In-ok-rest)
+    (eqb-true _ 0 (sym c.if-is_empty.ensures)))
 
-pub returns-else-is-empty : goal.returns-else-is-empty
-returns-else-is-empty c =
-    ap (λ n. Err (Trailing n)) c.end-line.ensures
-    ∙ sym (ended_badly c.args.text.now (plan_of c.fill.new.drawing) c.in-ok-rest.rest.now (all_drawn (at·returns-else-is-empty c).In-ok-rest)
-    (eqb-false _ 0 (sym c.if-is-empty.ensures)))
+pub returns-else-is_empty : goal.returns-else-is_empty
+returns-else-is_empty c =
+    ap (λ n. Err (Trailing n)) c.end_line.ensures
+    ∙ sym (ended_badly c.args.text.now (plan_of c.fill.new.drawing) c.in_ok-rest.rest.now (all_drawn (at·returns-else-is_empty c).In-ok-rest)
+    (eqb-false _ 0 (sym c.if-is_empty.ensures)))

@@ -5,8 +5,8 @@ use Rattle.chart_reader.proofs.Exact.{exactly, gives_back, one_text}
 use Rattle.chart_reader.proofs.Meanings.{refusals}
 use Rattle.chart_reader.proofs.reader.read.Goals as goal
 
-pub returns-then-text-gt-MOST-TEXT-BYTES : goal.returns-then-text-gt-MOST-TEXT-BYTES
-returns-then-text-gt-MOST-TEXT-BYTES c =
+pub returns-then-text-gt-MOST_TEXT_BYTES : goal.returns-then-text-gt-MOST_TEXT_BYTES
+returns-then-text-gt-MOST_TEXT_BYTES c =
     let f = lt-leb (length c.args.text.now) 16384 (omega arith) in record { answer = rw f; exact = exactly; back = gives_back; once = one_text; refusals = refusals }
 
 pub returns : goal.returns

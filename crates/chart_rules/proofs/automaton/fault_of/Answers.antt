@@ -12,26 +12,26 @@ use Rattle.chart_rules.proofs.automaton.fault_of.Goals as goal
 placed_known : (h : Hierarchy) → Proper h → (a : ℕ) → Placed h a → a < h.automata
 placed_known h proper a p = elim p [ inl x ↦ omega (arith, x.0, x.1) | inr x ↦ proper.parent a x.1.0 x.1.1 ]
 
-pub returns-then-not-is-placed : goal.returns-then-not-is-placed
-returns-then-not-is-placed c =
+pub returns-then-not-is_placed : goal.returns-then-not-is_placed
+returns-then-not-is_placed c =
     let h = drawn c.args.drawing.now in
     let a = c.args.automaton.0 in
-    sym (cond-false _ _ _ (same_from_decides _ _ (tells_placed h a) c.is-placed.ensures ∙ c.if-not-is-placed.true))
+    sym (cond-false _ _ _ (same_from_decides _ _ (tells_placed h a) c.is_placed.ensures ∙ c.if-not-is_placed.true))
 
-pub returns-then-not-starts-inside : goal.returns-then-not-starts-inside
-returns-then-not-starts-inside c =
+pub returns-then-not-starts_inside : goal.returns-then-not-starts_inside
+returns-then-not-starts_inside c =
     let d = c.args.drawing.now in
     let h = drawn d in
     let a = c.args.automaton.0 in
-    let p = c.is-placed.ensures.0 c.if-not-is-placed.false in
-    let at = same_from_decides _ _ (tells_starts h a) (c.starts-inside.ensures (placed_known h (proper d) a p)) in
-    sym (cond-true _ _ _ ((tells_placed h a).1 p) ∙ cond-false _ _ _ (at ∙ c.if-not-starts-inside.true))
+    let p = c.is_placed.ensures.0 c.if-not-is_placed.false in
+    let at = same_from_decides _ _ (tells_starts h a) (c.starts_inside.ensures (placed_known h (proper d) a p)) in
+    sym (cond-true _ _ _ ((tells_placed h a).1 p) ∙ cond-false _ _ _ (at ∙ c.if-not-starts_inside.true))
 
 pub returns : goal.returns
 returns c =
     let d = c.args.drawing.now in
     let h = drawn d in
     let a = c.args.automaton.0 in
-    let p = c.is-placed.ensures.0 c.if-not-is-placed.false in
-    let at = same_from_decides _ _ (tells_starts h a) (c.starts-inside.ensures (placed_known h (proper d) a p)) in
-    sym (cond-true _ _ _ ((tells_placed h a).1 p) ∙ cond-true _ _ _ (at ∙ c.if-not-starts-inside.false))
+    let p = c.is_placed.ensures.0 c.if-not-is_placed.false in
+    let at = same_from_decides _ _ (tells_starts h a) (c.starts_inside.ensures (placed_known h (proper d) a p)) in
+    sym (cond-true _ _ _ ((tells_placed h a).1 p) ∙ cond-true _ _ _ (at ∙ c.if-not-starts_inside.false))

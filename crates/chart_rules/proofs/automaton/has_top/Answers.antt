@@ -15,24 +15,24 @@ top_free h p = elim p [ inl x ↦ (x.1, x.2) | inr x ↦ absurd (omega (arith, x
 no_top : (h : Hierarchy) → (Placed h 0 → ⊥) → Decides false (Placed h 0)
 no_top h never = ((λ t. absurd (both_ways false refl t)), (λ p. absurd (never p)))
 
-pub returns-then-is-empty : goal.returns-then-is-empty
-returns-then-is-empty c =
+pub returns-then-is_empty : goal.returns-then-is_empty
+returns-then-is_empty c =
     let d = c.args.drawing.now in
-    let none = eqb-true _ 0 (sym c.if-is-empty.ensures) in
-    no_top (drawn d) (λ x. omega (arith, (top_free (drawn d) x).0, automata_are d, ap length c.as-slice-automata.ensures.value, none))
+    let none = eqb-true _ 0 (sym c.if-is_empty.ensures) in
+    no_top (drawn d) (λ x. omega (arith, (top_free (drawn d) x).0, automata_are d, ap length c.as_slice-automata.ensures.value, none))
 
 pub returns-in-Top : goal.returns-in-Top
 returns-in-Top c =
     let d = c.args.drawing.now in
-    let some = eqb-false _ 0 (sym c.if-is-empty.ensures) in
-    let first : 0 < length c.as-slice-automata.result.now = omega arith in
-    let p = parent_read d 0 _ _ c.as-slice-automata.ensures.value first ∙ ap parent_state c.in-Top.is in
-    ((λ _. inl (refl, omega (arith, automata_are d, ap length c.as-slice-automata.ensures.value), p)), (λ _. refl))
+    let some = eqb-false _ 0 (sym c.if-is_empty.ensures) in
+    let first : 0 < length c.as_slice-automata.result.now = omega arith in
+    let p = parent_read d 0 _ _ c.as_slice-automata.ensures.value first ∙ ap parent_state c.in-Top.is in
+    ((λ _. inl (refl, omega (arith, automata_are d, ap length c.as_slice-automata.ensures.value), p)), (λ _. refl))
 
-pub returns-in-default : goal.returns-in-default
-returns-in-default c =
+pub returns-in_default : goal.returns-in_default
+returns-in_default c =
     let d = c.args.drawing.now in
-    let some = eqb-false _ 0 (sym c.if-is-empty.ensures) in
-    let first : 0 < length c.as-slice-automata.result.now = omega arith in
-    let p = parent_read d 0 _ _ c.as-slice-automata.ensures.value first ∙ ap parent_state c.in-default.is in
+    let some = eqb-false _ 0 (sym c.if-is_empty.ensures) in
+    let first : 0 < length c.as_slice-automata.result.now = omega arith in
+    let p = parent_read d 0 _ _ c.as_slice-automata.ensures.value first ∙ ap parent_state c.in_default.is in
     no_top (drawn d) (λ x. not_some _ _ (top_free (drawn d) x).1 p)

@@ -13,7 +13,7 @@ later h a pos p = elim p [ inl x ↦ absurd (pos x.0) | inr x ↦ x.1 ]
 
 pub returns-then-automaton-eq0 : goal.returns-then-automaton-eq0
 returns-then-automaton-eq0 c =
-    let d = c.args.drawing.now in subst (λ a. Decides c.has-top.result (Placed (drawn d) a)) (sym c.if-automaton-eq0.true) c.has-top.ensures
+    let d = c.args.drawing.now in subst (λ a. Decides c.has_top.result (Placed (drawn d) a)) (sym c.if-automaton-eq0.true) c.has_top.ensures
 
 pub returns-in-Some : goal.returns-in-Some
 returns-in-Some c =

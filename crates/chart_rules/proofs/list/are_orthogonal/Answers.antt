@@ -24,13 +24,13 @@ others_apart h xs x all others beside left small is_all is-others is-beside is-l
       (λ apart. empty.1 (λ v. elim (cases_Bool (has left v)) [ inl on ↦ let y = (at v).0 on in absurd (y.1 (apart v y.0.0.0 y.0.1)) | inr off ↦ off ])),
     )
 
-pub returns-then-not-is-empty : goal.returns-then-not-is-empty
-returns-then-not-is-empty c rooted outlines small =
+pub returns-then-not-is_empty : goal.returns-then-not-is_empty
+returns-then-not-is_empty c rooted outlines small =
     let xs = c.args.states.now in
     let i = c.loop-state.state-index in
-    let one = others_apart (drawn c.args.drawing.now) xs _ _ _ _ _ small c.set-of-all.ensures c.remove-others.ensures (c.beside.ensures rooted outlines) c.without.ensures _ c.is-empty.ensures in (
+    let one = others_apart (drawn c.args.drawing.now) xs _ _ _ _ _ small c.set_of-all.ensures c.remove-others.ensures (c.beside.ensures rooted outlines) c.without.ensures _ c.is_empty.ensures in (
       (λ t. absurd (both_ways false refl t)),
-      λ spread. absurd (both_ways _ c.if-not-is-empty.true (one.1 (λ w m ne. spread _ w (these_at xs i (record { 0 = 0 }) c.loop-state-test.true) m (λ e. ne (sym e))))),
+      λ spread. absurd (both_ways _ c.if-not-is_empty.true (one.1 (λ w m ne. spread _ w (these_at xs i (record { 0 = 0 }) c.loop-state-test.true) m (λ e. ne (sym e))))),
     )
 
 pub loop-state-init : goal.loop-state-init
@@ -39,10 +39,10 @@ loop-state-init c rooted outlines small v w m n ne = absurd (both_ways false ref
 pub loop-state-preserved : goal.loop-state-preserved
 loop-state-preserved c rooted outlines small v w m n ne =
     let h = drawn c.args.drawing.now in
-    let one = others_apart h c.args.states.now _ _ _ _ _ small c.set-of-all.ensures c.remove-others.ensures (c.beside.ensures rooted outlines) c.without.ensures _ c.is-empty.ensures in
+    let one = others_apart h c.args.states.now _ _ _ _ _ small c.set_of-all.ensures c.remove-others.ensures (c.beside.ensures rooted outlines) c.without.ensures _ c.is_empty.ensures in
     elim ((these_more c.args.states.now c.loop-state.state-index (record { 0 = 0 }) v c.loop-state-test.true).0 m) [
       | inl before ↦ c.loop-state.invariant rooted outlines small v w before n ne
-      | inr e ↦ subst (λ z. Orthogonal h z w) (sym e) (one.0 c.if-not-is-empty.false w n (λ same. ne (cc)))
+      | inr e ↦ subst (λ z. Orthogonal h z w) (sym e) (one.0 c.if-not-is_empty.false w n (λ same. ne (cc)))
     ]
 
 pub returns : goal.returns

@@ -50,7 +50,7 @@ pub returns : goal.returns
 returns c rooted outlines small =
     let h = drawn c.args.drawing.now in
     let xs = c.args.states.now in
-    let at = all_passed h xs c.loop-state.state-index c.args.ends _ _ c.loop-state.missed c.loop-state-test.false small c.set-of.ensures c.without-missed.ensures (c.loop-state.invariant rooted outlines) in (
-      (λ t v on off all. both_ways _ (c.is-empty.ensures.0 t v) ((at v).1 ((on, off), all))),
-      λ covers. c.is-empty.ensures.1 (λ v. elim (cases_Bool (has c.loop-state.missed v)) [ inl on ↦ let x = (at v).0 on in absurd (covers v x.0.0 x.0.1 x.1) | inr off ↦ off ]),
+    let at = all_passed h xs c.loop-state.state-index c.args.ends _ _ c.loop-state.missed c.loop-state-test.false small c.set_of.ensures c.without-missed.ensures (c.loop-state.invariant rooted outlines) in (
+      (λ t v on off all. both_ways _ (c.is_empty.ensures.0 t v) ((at v).1 ((on, off), all))),
+      λ covers. c.is_empty.ensures.1 (λ v. elim (cases_Bool (has c.loop-state.missed v)) [ inl on ↦ let x = (at v).0 on in absurd (covers v x.0.0 x.0.1 x.1) | inr off ↦ off ]),
     )

@@ -12,4 +12,4 @@ returns c rooted outlines =
     let u = c.args.source.0 in
     let at = is_below (drawn d) (proper d) c.args.tree.now outlines u c.below.result c.below.ensures in
     Decides-like _ (λ x. ((λ v m. (at v).0 (x.0 v m)), x.1)) (λ x. ((λ v m. (at v).1 (x.0 v m)), x.1))
-    (c.are-orthogonal-in.ensures rooted outlines (λ v on. small_below (drawn d) (proper d) c.args.tree.now outlines v u ((at v).0 on)))
+    (c.are_orthogonal_in.ensures rooted outlines (λ v on. small_below (drawn d) (proper d) c.args.tree.now outlines v u ((at v).0 on)))

@@ -9,17 +9,17 @@ pub returns-then-index-states : goal.returns-then-index-states
 returns-then-index-states c =
     let d = c.args.drawing.now in
     let v = c.args.state.0 in
-    none_in (drawn d) v (omega (arith, home_past d v _ c.as-slice-states.ensures.value c.if-index-states.true))
+    none_in (drawn d) v (omega (arith, home_past d v _ c.as_slice-states.ensures.value c.if-index-states.true))
 
 pub returns-then-automaton-len : goal.returns-then-automaton-len
 returns-then-automaton-len c =
     let d = c.args.drawing.now in
     let v = c.args.state.0 in
-    some_in (drawn d) v _ (home_read d v _ _ c.as-slice-states.ensures.value c.if-index-states.false) (omega (arith, automata_are d))
+    some_in (drawn d) v _ (home_read d v _ _ c.as_slice-states.ensures.value c.if-index-states.false) (omega (arith, automata_are d))
 
 pub returns-else-automaton-len : goal.returns-else-automaton-len
 returns-else-automaton-len c =
     let d = c.args.drawing.now in
     let v = c.args.state.0 in
-    let here = home_read d v (record { automaton = record { 0 = 0 } }) _ c.as-slice-states.ensures.value c.if-index-states.false in
+    let here = home_read d v (record { automaton = record { 0 = 0 } }) _ c.as_slice-states.ensures.value c.if-index-states.false in
     none_in (drawn d) v (omega (arith, automata_are d, here))

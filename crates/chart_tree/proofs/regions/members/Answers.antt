@@ -25,7 +25,7 @@ pub loop-i-preserved : goal.loop-i-preserved
 loop-i-preserved c =
     let d = c.args.drawing.now in
     let few : c.loop-i.i < 64 = omega arith in
-    let here = home_read d c.loop-i.i _ _ c.as-slice-states.ensures.value (omega (arith, ap length c.as-slice-states.ensures.value)) in
+    let here = home_read d c.loop-i.i _ _ c.as_slice-states.ensures.value (omega (arith, ap length c.as_slice-states.ensures.value)) in
     (omega (arith, c.loop-i.invariant.0), one_more (drawn d).home c.loop-i.members _ c.loop-i.i _ _ c.loop-i.invariant.0 here c.join.ensures (decides_one _ _ _ few c.empty.ensures c.insert-one.ensures) c.loop-i.invariant.1)
 
 pub returns : goal.returns

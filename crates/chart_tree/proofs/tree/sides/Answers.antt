@@ -15,7 +15,7 @@ loop-a-preserved c = (
   omega (arith, c.loop-a.invariant.0),
   λ rooted stage.
       let sides = c.loop-a.invariant.1 rooted stage in
-      sides_next (drawn c.args.drawing.now) c.loop-a.a c.loop-a.beside c.join.new.table c.sides-of-more.result (omega arith) sides c.join.ensures (omega arith) (c.sides-of-more.ensures rooted stage sides),
+      sides_next (drawn c.args.drawing.now) c.loop-a.a c.loop-a.beside c.join.new.table c.sides_of-more.result (omega arith) sides c.join.ensures (omega arith) (c.sides_of-more.ensures rooted stage sides),
 )
 
 pub returns : goal.returns

@@ -6,12 +6,12 @@ use Rattle.chart_tree.proofs.Drawn.{proper}
 use Rattle.chart_tree.proofs.Stages.{no_sides, sides_more}
 use Rattle.chart_tree.proofs.tree.sides_of.Goals as goal
 
-pub returns-in-default : goal.returns-in-default
-returns-in-default c rooted stage sides v w e =
+pub returns-in_default : goal.returns-in_default
+returns-in_default c rooted stage sides v w e =
     let d = c.args.drawing.now in
     let a = c.args.automaton.0 in (
       (λ t. absurd (both_ways _ (c.empty.ensures w) t)),
-      λ o. absurd (no_sides (drawn d) (proper d) rooted c.args.regions.now stage a v w (λ p u. let lt = rooted.under a p u in omega (arith, c.in-default.ensures p u, lt.0, lt.2)) e o),
+      λ o. absurd (no_sides (drawn d) (proper d) rooted c.args.regions.now stage a v w (λ p u. let lt = rooted.under a p u in omega (arith, c.in_default.ensures p u, lt.0, lt.2)) e o),
     )
 
 pub returns : goal.returns

@@ -28,18 +28,18 @@ after_automata d t o none outlines first =
 pub returns-in-Some : goal.returns-in-Some
 returns-in-Some c = let d = c.args.drawing in broken d c.in-Some.fault (ap (λ a. or_else a (first_of (drawn d).transitions (transition_fault (drawn d)))) c.in-Some.ensures)
 
-pub returns-in-Some-transitions-fault : goal.returns-in-Some-transitions-fault
-returns-in-Some-transitions-fault c =
-    let d = c.args.drawing in broken d _ (after_automata d c.new-tree.result _ c.in-default.ensures c.new-tree.ensures c.in-Some-transitions-fault.ensures)
+pub returns-in-Some-transitions_fault : goal.returns-in-Some-transitions_fault
+returns-in-Some-transitions_fault c =
+    let d = c.args.drawing in broken d _ (after_automata d c.new-tree.result _ c.in_default.ensures c.new-tree.ensures c.in-Some-transitions_fault.ensures)
 
-pub invariant-of-result : goal.invariant-of-result
-invariant-of-result c =
+pub invariant_of-result : goal.invariant_of-result
+invariant_of-result c =
     let d = c.args.drawing in
-    let kept = after_automata d c.new-tree.result None c.in-default.ensures c.new-tree.ensures c.in-default-transitions-fault.ensures in
+    let kept = after_automata d c.new-tree.result None c.in_default.ensures c.new-tree.ensures c.in_default-transitions_fault.ensures in
     let sound = (sound_right (drawn d) (proper d)).0 (sym kept) in
     (∣ sound ∣₁, (∣ c.new-tree.ensures sound.rooted ∣₁, tt))
 
 pub returns : goal.returns
 returns c =
     let d = c.args.drawing in
-    ap (unless_broken d) (after_automata d c.new-tree.result None c.in-default.ensures c.new-tree.ensures c.in-default-transitions-fault.ensures)
+    ap (unless_broken d) (after_automata d c.new-tree.result None c.in_default.ensures c.new-tree.ensures c.in_default-transitions_fault.ensures)

@@ -6,10 +6,10 @@ use Rattle.format.specs.declared.fault.ElementFault.{ElementFault}
 use Rattle.chart.specs.Kinds.{every, is_name_byte, name_of}
 use Rattle.chart.proofs.name.NameValue.read.Goals as goal
 
-pub returns-then-is-plain : goal.returns-then-is-plain
-returns-then-is-plain c =
+pub returns-then-is_plain : goal.returns-then-is_plain
+returns-then-is_plain c =
     let v = c.args.value.now in
     let a = le-leb 1 (length v) (omega arith) in
     let b = le-leb (length v) 16 (omega arith) in
-    let p = sym c.if-is-plain.ensures in
-    ap (λ xs. Ok xs) (c.extend-from-slice.ensures ∙ ap (λ xs. take 16 (xs ++ v)) c.new-bytes.ensures ∙ take_all 16 v (omega arith)) ∙ sym (rw (a, b, p))
+    let p = sym c.if-is_plain.ensures in
+    ap (λ xs. Ok xs) (c.extend_from_slice.ensures ∙ ap (λ xs. take 16 (xs ++ v)) c.new-bytes.ensures ∙ take_all 16 v (omega arith)) ∙ sym (rw (a, b, p))

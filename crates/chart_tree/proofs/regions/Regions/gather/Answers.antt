@@ -13,8 +13,8 @@ returns-in-Some c rooted stage =
     c.at-inner.result c.insert-self.result c.join.new.table c.join-in-Some.new.table c.at-inner.ensures c.join.ensures c.join-in-Some.ensures c.insert-self.ensures
     (omega arith) (omega arith)
 
-pub returns-in-default : goal.returns-in-default
-returns-in-default c rooted stage =
+pub returns-in_default : goal.returns-in_default
+returns-in_default c rooted stage =
     let d = c.args.drawing.now in
     stage_skip (drawn d) (proper d) rooted c.args.automaton.0 c.args.self.now
-    (λ p u. let lt = rooted.under c.args.automaton.0 p u in omega (arith, c.in-default.ensures p u, lt.0, lt.2)) stage
+    (λ p u. let lt = rooted.under c.args.automaton.0 p u in omega (arith, c.in_default.ensures p u, lt.0, lt.2)) stage

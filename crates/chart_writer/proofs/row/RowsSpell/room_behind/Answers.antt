@@ -7,13 +7,13 @@ use Rattle.chart_writer.proofs.Lists.{rows_more, rows_fit}
 use Rattle.chart_writer.proofs.Room.{left_next, left_none}
 use Rattle.chart_writer.proofs.row.RowsSpell.room_behind.Goals as goal
 
-pub returns-in-err-left : goal.returns-in-err-left
-returns-in-err-left g c =
+pub returns-in_err-left : goal.returns-in_err-left
+returns-in_err-left g c =
     let f = g.R.Row.text in
     let xs = c.args.self.now.0.now in
     let w = g.R.Parts.Spell.spelling c.parts.result in
-    c.from-residual.ensures
-    ∙ left_none c.args.room c.loop-row.left (flat_map f (take c.loop-row.row-index xs)) w (flat_map f xs) c.loop-row.invariant c.in-err-left.ensures
+    c.from_residual.ensures
+    ∙ left_none c.args.room c.loop-row.left (flat_map f (take c.loop-row.row-index xs)) w (flat_map f xs) c.loop-row.invariant c.in_err-left.ensures
     (rows_fit f xs c.loop-row.row-index c.row-item.result w c.loop-row-test.true c.row-item.is c.parts.ensures)
 
 pub loop-row-preserved : goal.loop-row-preserved
@@ -21,7 +21,7 @@ loop-row-preserved g c =
     let f = g.R.Row.text in
     let xs = c.args.self.now.0.now in
     let w = g.R.Parts.Spell.spelling c.parts.result in
-    c.in-ok-left.ensures
+    c.in_ok-left.ensures
     ∙ left_next c.args.room c.loop-row.left (flat_map f (take c.loop-row.row-index xs)) w c.loop-row.invariant
     ∙ ap (λ s. left_of c.args.room (length s))
     (rows_more f xs c.loop-row.row-index c.row-item.result w c.loop-row-test.true c.row-item.is c.parts.ensures)
