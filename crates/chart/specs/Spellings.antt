@@ -1,6 +1,6 @@
 -- Every part of a chart that is an element of a text reads back from its spelling, and from nothing else. Assumes nothing.
-use Rattle.std.specs.Prelude.{◌≡◌, ℕ, ◌<◌, ◌≤◌, Bool, true, false, cond, List, [], ◌∷◌, length, Some, None, codes, Option, nat_lt, refl}
-use Rattle.std.proofs.Common.{⊎_elim, sym, ap, ◌∙◌, subst, arith}
+use Rattle.std.specs.Prelude.{◌≡◌, ℕ, ◌<◌, ◌≤◌, true, false, List, [], ◌∷◌, length, Some, None, codes, Option, nat_lt, refl}
+use Rattle.std.proofs.Common.{⊎_elim, ap, ◌∙◌, arith}
 use Rattle.std.specs.Option.{option_map}
 use Rattle.std.specs.Str.{bytes_eq}
 use Rattle.std.proofs.lemmas.Slice.Eq.{bytes_eq-Decides}
@@ -9,9 +9,6 @@ use Rattle.format.specs.Bytes.{Free, number_of, spelled}
 use Rattle.format.specs.Elements.{Spells}
 use Rattle.format.proofs.Numbers.{number_to, number_from, spelled_free, spelled_some, spelled_short, numbered_exact}
 use Rattle.chart.specs.Kinds.{state_no, automaton_no, event_no, condition_no, under_state, state_kind, automaton_kind, event_kind, term_kind, parent_kind, term_of, lettered, term_shape, term_inside, term_text, parent_shape, parent_inside, parent_text}
-use Rattle.chart.specs.declared.id.StateId.{StateId}
-use Rattle.chart.specs.declared.id.AutomatonId.{AutomatonId}
-use Rattle.chart.specs.declared.id.EventId.{EventId}
 use Rattle.chart.specs.declared.drawing.Term.{Term}
 use Rattle.chart.specs.declared.drawing.Term.TheVariants.{Active, Inactive, Holds, Fails}
 use Rattle.chart.specs.declared.drawing.Parent.{Parent}

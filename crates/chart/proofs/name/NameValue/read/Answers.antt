@@ -1,9 +1,7 @@
 -- `Name::read`: a name of at most 16 bytes is kept whole. Assumes nothing.
-use Rattle.std.proofs.Common.{◌≡◌, Bool, true, cond, ◌&&◌, leb, List, [], ◌++◌, length, take, Ok, Err, sym, ap, ◌∙◌, arith}
+use Rattle.std.proofs.Common.{◌++◌, length, take, Ok, sym, ap, ◌∙◌, arith}
 use Rattle.std.proofs.lemmas.List.{take_all}
 use Rattle.std.proofs.lemmas.Bool.{le-leb}
-use Rattle.format.specs.declared.fault.ElementFault.{ElementFault}
-use Rattle.chart.specs.Kinds.{every, is_name_byte, name_of}
 use Rattle.chart.proofs.name.NameValue.read.Goals as goal
 
 pub returns-then-is_plain : goal.returns-then-is_plain

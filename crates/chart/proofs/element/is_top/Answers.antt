@@ -1,8 +1,0 @@
--- `element::is_top`: equal bytes. Assumes nothing.
-use Rattle.std.proofs.Common.{codes}
-use Rattle.std.proofs.lemmas.Slice.Eq.{slice_eq-Decides, bytes_eq-Decides}
-use Rattle.std.proofs.lemmas.Bool.Decides.{same_from_decides, Decides-eqb}
-use Rattle.chart.proofs.element.is_top.Goals as goal
-
-pub returns : goal.returns
-returns c = same_from_decides _ _ (slice_eq-Decides Decides-eqb _ _ _ c.eq.ensures) (bytes_eq-Decides c.args.bytes.now (codes "top"))
