@@ -1,10 +1,10 @@
 -- A text is accepted just if it is the spelling of a plan within the limits. Assumes nothing.
-use Rattle.std.proofs.Common.{◌≡◌, ℕ, ◌+◌, ◌*◌, ◌<◌, ◌≤◌, Bool, true, false, cond, ◌&&◌, ltb, leb, List, [], ◌∷◌, ◌++◌, length, Ok, Err, Result, sym, refl, ap, ◌∙◌, subst, ap₂, arith}
+use Rattle.std.proofs.Common.{◌≡◌, ℕ, ◌+◌, ◌*◌, ◌<◌, ◌≤◌, Bool, true, false, ◌&&◌, ltb, leb, List, [], ◌∷◌, ◌++◌, length, Ok, sym, refl, ap, ◌∙◌, subst, ap₂, arith}
 use Rattle.std.specs.List.{flat_map, AllByRecursion as All}
 use Rattle.std.proofs.lemmas.Bool.{and_parts, and_from, leb-true, le-leb, ltb-true, lt-ltb}
-use Rattle.format.specs.Bytes.{Free, spelled}
+use Rattle.format.specs.Bytes.{Free}
 use Rattle.format.specs.Elements.{and_then, Kind, Spells, GoodList, list_text}
-use Rattle.format.specs.Readers.{field, both, times, named, ended, Exact, Whole}
+use Rattle.format.specs.Readers.{ended, Exact, Whole}
 use Rattle.format.specs.declared.fault.ElementFault.TheVariants.{Form}
 use Rattle.format.specs.declared.fault.TextFault.TheVariants.{Oversize}
 use Rattle.format.proofs.Laws.{field_exact, both_exact, named_exact, times_exact, whole_text}
@@ -17,12 +17,12 @@ use Rattle.chart.specs.declared.drawing.State.{State}
 use Rattle.chart.specs.Spellings.{state_exact, automaton_exact, event_exact, term_exact, parent_exact}
 use Rattle.chart_text.specs.Counts.{positive_no, natural_no, positive_kind, natural_kind}
 use Rattle.chart_text.specs.Keys.{key_text}
-use Rattle.chart_text.specs.Texts.{counts_of, line_text, automaton_text, state_text, transition_text, text_of, GoodAutomaton, GoodTransition, FromTo, Within}
+use Rattle.chart_text.specs.Texts.{counts_of, line_text, automaton_text, state_text, transition_text, text_of, GoodAutomaton, GoodTransition, Within}
 use Rattle.chart_text.specs.declared.count.Counts.{Counts}
 use Rattle.chart_text.specs.declared.line.Key.{Key}
 use Rattle.chart_text.specs.declared.line.Key.TheVariants.{Chart, Events, Automata, States, Transitions, Under, First, In, From, With, On, If, Do, To, Into}
 use Rattle.chart_text.specs.CountsLemmas.{positive_exact, natural_exact}
-use Rattle.chart_reader.specs.Verdicts.{one, some, automaton, automaton_lines, state, state_lines, TransitionParts, transition, transition_lines, Rows, rows, PlanParts, plan, counted, drawn, due_end, verdict, Spelled, Exactly, GivesBack, OneText}
+use Rattle.chart_reader.specs.Verdicts.{one, some, automaton, automaton_lines, state, state_lines, TransitionParts, transition, transition_lines, rows, PlanParts, plan, counted, drawn, due_end, Exactly, GivesBack, OneText}
 
 -- ---- the keys
 

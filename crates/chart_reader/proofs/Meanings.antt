@@ -1,5 +1,5 @@
 -- Each refusal comes exactly when the format says. Assumes nothing.
-use Rattle.std.proofs.Common.{◌≡◌, ℕ, suc, ◌+◌, ◌<◌, ◌≤◌, Bool, true, false, cond, ◌&&◌, leb, List, [], ◌∷◌, ◌++◌, length, Some, None, Ok, Err, Option, Result, sym, refl, ap, ◌∙◌, subst, ap₂, ⊎_elim, arith}
+use Rattle.std.proofs.Common.{◌≡◌, ℕ, suc, ◌+◌, ◌≤◌, ◌&&◌, leb, List, [], ◌∷◌, ◌++◌, length, Some, None, Ok, Err, Option, Result, sym, refl, ap, ◌∙◌, subst, ap₂, ⊎_elim, arith}
 use Rattle.std.proofs.lemmas.Bool.{cases_Bool, leb-true, leb-false, le-leb, lt-leb}
 use Rattle.format.specs.declared.fault.ElementFault.{ElementFault}
 use Rattle.format.specs.declared.fault.ElementFault.TheVariants.{Form}
@@ -8,14 +8,13 @@ use Rattle.format.specs.declared.fault.TextFault.{TextFault}
 use Rattle.format.specs.declared.fault.TextFault.TheVariants.{Oversize, Line, Trailing}
 use Rattle.format.proofs.Wrongs.{fault_of, single_to, single_from, list_to, list_from, line_to, line_from}
 use Rattle.chart.specs.Kinds.{state_kind, automaton_kind, event_kind, term_kind, parent_kind, is_name_byte, every, Named, name_of}
-use Rattle.chart.specs.Plans.{Plan}
 use Rattle.chart_text.specs.Counts.{positive_kind, natural_kind}
 use Rattle.chart_text.specs.Keys.{key_text}
 use Rattle.chart_text.specs.declared.count.Counts.{Counts}
 use Rattle.chart_text.specs.declared.line.Key.{Key}
 use Rattle.chart_text.specs.declared.line.Key.TheVariants.{Chart, Events, Automata, States, Transitions, Under, First, In, From, With, On, If, Do, To, Into}
 use Rattle.chart_reader.specs.Verdicts.{read_through, verdict}
-use Rattle.chart_reader.specs.Refusals.{next_line, skip_lines, counts_in, keys_in, BadValue, WrongLine, RightLines, FirstWrong, GoesOn, Refused, Refusals}
+use Rattle.chart_reader.specs.Refusals.{next_line, skip_lines, counts_in, keys_in, BadValue, WrongLine, RightLines, FirstWrong, GoesOn, Refusals}
 use Rattle.chart_reader.proofs.Exact.{name_whole}
 use Rattle.chart_reader.proofs.Outcomes.{Outcome, accepted, stopped, going_on, outcome}
 use Rattle.chart_reader.proofs.Walks.{value_fault, fault_at, Clear, Broken}

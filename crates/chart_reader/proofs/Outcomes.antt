@@ -1,13 +1,12 @@
 -- A whole text walks along its due keys: accepted, stopped at its first wrong line, or going on behind. Assumes nothing.
-use Rattle.std.proofs.Common.{◌≡◌, ℕ, zero, suc, ◌+◌, ◌*◌, List, [], ◌∷◌, ◌++◌, length, Some, None, Ok, Err, Result, sym, refl, ap, ◌∙◌, subst, ap₂, arith}
+use Rattle.std.proofs.Common.{◌≡◌, ℕ, zero, suc, ◌+◌, ◌*◌, List, [], ◌∷◌, ◌++◌, length, Ok, Err, Result, sym, refl, ap, ◌∙◌, subst, arith}
 use Rattle.std.proofs.lemmas.List.{length-append}
 use Rattle.std.specs.Option.{option_map}
 use Rattle.format.specs.Bytes.{number_of}
 use Rattle.format.specs.Elements.{and_then, Kind, single_of, list_of}
-use Rattle.format.specs.Readers.{field, both, times, named, ended}
-use Rattle.format.specs.declared.fault.LineFault.{LineFault}
+use Rattle.format.specs.Readers.{field, both, times, ended}
 use Rattle.format.specs.declared.fault.TextFault.{TextFault}
-use Rattle.format.specs.declared.fault.TextFault.TheVariants.{Line, Trailing}
+use Rattle.format.specs.declared.fault.TextFault.TheVariants.{Trailing}
 use Rattle.format.proofs.Laws.{field_parts, both_parts, times_length}
 use Rattle.format.proofs.Lists.{same_ok, then_ok}
 use Rattle.format.proofs.Wholes.{single_number}
@@ -20,8 +19,8 @@ use Rattle.chart_text.specs.declared.count.Positive.{Positive}
 use Rattle.chart_text.specs.declared.count.Natural.{Natural}
 use Rattle.chart_text.specs.declared.line.Key.{Key}
 use Rattle.chart_text.specs.declared.line.Key.TheVariants.{Chart, Events, Automata, States, Transitions, Under, First, In, From, With, On, If, Do, To, Into}
-use Rattle.chart_reader.specs.Verdicts.{one, some, automaton, automaton_lines, state, state_lines, transition, transition_lines, Rows, rows, PlanParts, plan, counted, drawn, due_end, read_through}
-use Rattle.chart_reader.specs.Refusals.{head_keys, transition_keys, repeated, row_keys, due_keys, next_line, skip_lines, number_in, or_zero, stated, counts_in, keys_in}
+use Rattle.chart_reader.specs.Verdicts.{one, automaton, automaton_lines, state, state_lines, transition, transition_lines, Rows, rows, PlanParts, plan, counted, drawn, due_end, read_through}
+use Rattle.chart_reader.specs.Refusals.{transition_keys, repeated, row_keys, due_keys, next_line, skip_lines, number_in, or_zero, stated, counts_in, keys_in}
 use Rattle.chart_reader.proofs.Steps.{from_transitions, from_states, from_automata, from_events}
 use Rattle.chart_reader.proofs.Walks.{Clear, Broken, Walks, field_walks, both_walks, named_walks, times_walks}
 

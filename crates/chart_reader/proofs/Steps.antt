@@ -1,10 +1,10 @@
 -- The reader's steps: one part read, and the others behind it. Assumes nothing.
-use Rattle.std.proofs.Common.{◌≡◌, ℕ, ◌+◌, ◌*◌, List, [], ◌∷◌, map, length, Ok, Err, Result, sym, refl, ap, ◌∙◌, subst, ap₂, arith, MutBor}
+use Rattle.std.proofs.Common.{◌≡◌, ℕ, ◌+◌, ◌*◌, List, [], ◌∷◌, map, length, Ok, Err, Result, sym, refl, ap, ◌∙◌, ap₂, arith}
+use Rattle.std.specs.Borrow.{Bor}
 use Rattle.std.proofs.lemmas.List.{map-id}
 use Rattle.fixed.specs.Items.{items}
-use Rattle.format.specs.Elements.{and_then, by, single_of}
-use Rattle.format.specs.Readers.{Reader, value_at, in_text, field, both, times, rows_behind, named, ended}
-use Rattle.format.specs.declared.fault.LineFault.{LineFault}
+use Rattle.format.specs.Elements.{and_then, single_of}
+use Rattle.format.specs.Readers.{Reader, value_at, in_text, field, both, times, rows_behind, ended}
 use Rattle.format.specs.declared.fault.TextFault.{TextFault}
 use Rattle.format.specs.declared.fault.TextFault.TheVariants.{Trailing}
 use Rattle.chart.specs.Kinds.{name_of}
@@ -18,8 +18,8 @@ use Rattle.chart_text.specs.declared.count.Counts.{Counts}
 use Rattle.chart_text.specs.declared.count.Positive.{Positive}
 use Rattle.chart_text.specs.declared.count.Natural.{Natural}
 use Rattle.chart_text.specs.declared.line.Key.TheVariants.{Chart, Events, Automata, States, Transitions}
-use Rattle.chart_reader.specs.Inner.{RowsGive, rows_in, Blank, RowsRead, Filled}
-use Rattle.chart_reader.specs.Verdicts.{one, automaton_lines, state_lines, transition_lines, Rows, rows, PlanParts, plan, counted, drawn, due_end, read_through}
+use Rattle.chart_reader.specs.Inner.{RowsGive, rows_in, RowsRead, Filled}
+use Rattle.chart_reader.specs.Verdicts.{one, automaton_lines, state_lines, transition_lines, Rows, rows, plan, counted, drawn, due_end, read_through}
 
 -- one part, with what the next part gives
 abbrev pub paired : {A B : Type 0} → A → Result (B × List ℕ) TextFault → Result ((A × B) × List ℕ) TextFault
@@ -52,7 +52,7 @@ rows_three c count t A S r1 r2 a s =
 -- the last of the three kinds of rows decides
 pub filled : (x : Result (Rows × List ℕ) TextFault) (before after : Drawing) (w : Result (List TransitionPlan × List ℕ) TextFault)
     → x ≡ paired (items after.automata) (paired (items after.states) w) → items before.transitions ≡ [] → after.name ≡ before.name → after.events ≡ before.events
-    → (r : Result (MutBor (List ℕ)) TextFault)
+    → (r : Result (Bor (List ℕ)) TextFault)
     → RowsGive (rows_behind (map transition_plan (items before.transitions)) w) (map transition_plan (items after.transitions)) r
     → Filled x before after r
 filled x before after w e none n v (Ok rest) h = record {

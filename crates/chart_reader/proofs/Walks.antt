@@ -1,8 +1,7 @@
 -- A reader walks along the keys that are due: it stops at the first wrong line, or behind the last. Assumes nothing.
-use Rattle.std.proofs.Common.{◌≡◌, ℕ, zero, suc, ◌+◌, ◌*◌, List, [], ◌∷◌, ◌++◌, length, Some, None, Ok, Err, Option, Result, sym, refl, ap, ◌∙◌, subst, ap₂, arith}
+use Rattle.std.proofs.Common.{◌≡◌, ℕ, zero, suc, ◌+◌, List, [], ◌∷◌, ◌++◌, length, Some, None, Ok, Err, Option, Result, sym, refl, ap, ◌∙◌, subst, ap₂, arith}
 use Rattle.std.specs.Option.{option_map}
 use Rattle.std.proofs.lemmas.List.{append_assoc, length-append}
-use Rattle.format.specs.Bytes.{cut_at}
 use Rattle.format.specs.Elements.{and_then, single_of, list_of}
 use Rattle.format.specs.Readers.{Reader, line_at, in_line, value_at, in_text, field, both, times, named}
 use Rattle.format.specs.declared.fault.ElementFault.{ElementFault}
@@ -19,7 +18,7 @@ use Rattle.chart_text.specs.Keys.{key_text}
 use Rattle.chart_text.specs.declared.count.Counts.{Counts}
 use Rattle.chart_text.specs.declared.line.Key.{Key}
 use Rattle.chart_text.specs.declared.line.Key.TheVariants.{Chart, Events, Automata, States, Transitions, Under, First, In, From, With, On, If, Do, To, Into}
-use Rattle.chart_reader.specs.Refusals.{repeated, after_cut, next_line, skip_lines}
+use Rattle.chart_reader.specs.Refusals.{repeated, next_line, skip_lines}
 
 -- the fault of a value, and of a line, by calculation
 abbrev pub value_fault : Counts → Key → List ℕ → Option ElementFault

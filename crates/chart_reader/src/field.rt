@@ -32,7 +32,7 @@ pub(super) fn field<'a, V: Value>(
     number: u16,
     text: &'a [u8],
 ) -> Result<Read<'a, V>, LineFault>
-    ensures { Gives said (value_at (reads limit) (key_text key) number text.now) result }
+    ensures { Gives V.said (value_at (V.reads limit) (key_text key) number text.now) result }
 {
     let Front { line, rest } = due_line(key, number, text)?;
     let item = on_line(line.number, V::read(limit, line.due.value()))?;

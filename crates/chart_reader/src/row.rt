@@ -153,7 +153,7 @@ pub(super) fn read_rows<'a, R: Row, const N: usize>(
 ) -> Result<&'a [u8], TextFault>
     requires room { length (items rows.old) + count ≤ most N }
     requires lines { number + 8 * count < 60000 }
-    ensures { RowsGive (more_rows said lines (reads counts) (items rows.old) count number text.now) (map said (items rows.new)) result }
+    ensures { RowsGive (more_rows R.said R.lines (R.reads counts) (items rows.old) count number text.now) (map R.said (items rows.new)) result }
 {
     let mut rest = text;
     let mut at = number;

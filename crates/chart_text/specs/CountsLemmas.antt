@@ -1,5 +1,5 @@
 -- A count reads back from its spelling, and from nothing else. Assumes nothing.
-use Rattle.std.specs.Prelude.{ℕ, nat_le, nat_lt, refl}
+use Rattle.std.specs.Prelude.{nat_le, nat_lt, refl}
 use Rattle.std.proofs.Common.{arith}
 use Rattle.std.proofs.lemmas.Bool.{and_parts, ltb-true}
 use Rattle.format.specs.Elements.{Spells}

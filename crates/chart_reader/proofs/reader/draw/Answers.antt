@@ -7,10 +7,10 @@ use Rattle.chart.specs.Plans.{plan_of}
 use Rattle.chart_reader.specs.Verdicts.{drawn}
 use Rattle.chart_reader.proofs.Steps.{drawn_done, ended_well, ended_badly}
 use Rattle.chart_reader.proofs.reader.draw.Goals as goal
-use Rattle.chart_reader.proofs.reader.draw.Goals.{In-ok-rest, at·returns-then-is_empty, at·returns-else-is_empty}
+use Rattle.chart_reader.proofs.reader.draw.Goals.{In_ok-rest}
 
 -- both ends come behind all rows
-all_drawn : (c : In-ok-rest) → drawn 1 c.args.text.now ≡ Ok (plan_of c.fill.new.drawing, c.in_ok-rest.rest.now)
+all_drawn : (c : In_ok-rest) → drawn 1 c.args.text.now ≡ Ok (plan_of c.fill.new.drawing, c.in_ok-rest.rest.now)
 all_drawn c =
     drawn_done c.args.text.now c.in_ok-name.name.rest.now c.in_ok-events.events.rest.now c.in_ok-automata.automata.rest.now
     c.in_ok-states.states.rest.now c.in_ok-transitions.transitions.rest.now _ _ _ _ _
@@ -20,11 +20,11 @@ all_drawn c =
 
 pub returns-then-is_empty : goal.returns-then-is_empty
 returns-then-is_empty c =
-    sym (ended_well c.args.text.now (plan_of c.fill.new.drawing) c.in_ok-rest.rest.now (all_drawn (at·returns-then-is_empty c).In-ok-rest)
+    sym (ended_well c.args.text.now (plan_of c.fill.new.drawing) c.in_ok-rest.rest.now (all_drawn (goal.at.returns-then-is_empty c).In_ok-rest)
     (eqb-true _ 0 (sym c.if-is_empty.ensures)))
 
 pub returns-else-is_empty : goal.returns-else-is_empty
 returns-else-is_empty c =
     ap (λ n. Err (Trailing n)) c.end_line.ensures
-    ∙ sym (ended_badly c.args.text.now (plan_of c.fill.new.drawing) c.in_ok-rest.rest.now (all_drawn (at·returns-else-is_empty c).In-ok-rest)
+    ∙ sym (ended_badly c.args.text.now (plan_of c.fill.new.drawing) c.in_ok-rest.rest.now (all_drawn (goal.at.returns-else-is_empty c).In_ok-rest)
     (eqb-false _ 0 (sym c.if-is_empty.ensures)))

@@ -1,8 +1,8 @@
 -- `reader::fill`: the three kinds of rows, one behind the other. Assumes nothing.
-use Rattle.std.proofs.Common.{◌≡◌, ◌+◌, ◌*◌, length, refl, ap, arith}
+use Rattle.std.proofs.Common.{◌+◌, ◌*◌, length, refl, ap, arith}
 use Rattle.fixed.specs.Items.{items}
 use Rattle.format.specs.Readers.{times}
-use Rattle.chart_reader.specs.Verdicts.{automaton_lines, state_lines, transition_lines, rows}
+use Rattle.chart_reader.specs.Verdicts.{transition_lines, rows}
 use Rattle.chart_reader.proofs.Steps.{plain, rows_three, filled}
 use Rattle.chart_reader.proofs.reader.fill.Goals as goal
 

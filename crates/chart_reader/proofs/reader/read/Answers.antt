@@ -1,5 +1,5 @@
 -- `reader::read`: the size first, then the text; and the laws on what a text is read as. Assumes nothing.
-use Rattle.std.proofs.Common.{◌≡◌, length, sym, ap, ◌∙◌, arith}
+use Rattle.std.proofs.Common.{length, arith}
 use Rattle.std.proofs.lemmas.Bool.{le-leb, lt-leb}
 use Rattle.chart_reader.proofs.Exact.{exactly, gives_back, one_text}
 use Rattle.chart_reader.proofs.Meanings.{refusals}
