@@ -43,7 +43,7 @@ pub fn write(drawing: &Drawing, out: &mut [u8]) -> Result<usize, WriteFault>
 
 // Writes all of it, or nothing where it does not fit.
 fn write_whole<T: Spell>(whole: &T, out: &mut [u8]) -> Result<usize, WriteFault>
-    ensures { Written (spelling whole.now) out.old result out.new }
+    ensures { Written (T.spelling whole.now) out.old result out.new }
 {
     match whole.room_behind(out.len()) {
         Some(_) => Ok(whole.write(out)),

@@ -6,16 +6,16 @@ use Rattle.chart_writer.proofs.Lists.{rows_more, rows_fit}
 use Rattle.chart_writer.proofs.Rest.{put_next, put_as, lent}
 use Rattle.chart_writer.proofs.row.RowsSpell.write.Goals as goal
 
-pub slice-bounds-write-count : goal.slice-bounds-write-count
-slice-bounds-write-count g c =
+pub slice_bounds-write-count : goal.slice_bounds-write-count
+slice_bounds-write-count g c =
     omega (
       arith,
       rows_fit g.R.Row.text c.args.self.now.0.now c.loop-row.row-index c.row-item.result
           (g.R.Parts.Spell.spelling c.parts.result) c.loop-row-test.true c.row-item.is c.parts.ensures,
     )
 
-pub slice-bounds-write-start : goal.slice-bounds-write-start
-slice-bounds-write-start g c =
+pub slice_bounds-write-start : goal.slice_bounds-write-start
+slice_bounds-write-start g c =
     omega (
       arith,
       rows_fit g.R.Row.text c.args.self.now.0.now c.loop-row.row-index c.row-item.result
@@ -31,8 +31,8 @@ write-at-requires g c =
           (g.R.Parts.Spell.spelling c.parts.result) c.loop-row-test.true c.row-item.is c.parts.ensures,
     ))
 
-pub overflow-add-at : goal.overflow-add-at
-overflow-add-at g c =
+pub overflow_add-at : goal.overflow_add-at
+overflow_add-at g c =
     omega (
       arith,
       rows_fit g.R.Row.text c.args.self.now.0.now c.loop-row.row-index c.row-item.result

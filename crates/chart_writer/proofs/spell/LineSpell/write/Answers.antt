@@ -12,17 +12,17 @@ write-value-requires g c =
     let l = line_length c.args.self.now.0 c.text.result.now (g.V.Spell.spelling c.args.self.now.1) c.text.ensures in
     lent _ c.put-key.ensures (omega arith)
 
-pub overflow-add-key : goal.overflow-add-key
-overflow-add-key g c =
+pub overflow_add-key : goal.overflow_add-key
+overflow_add-key g c =
     omega (arith, line_length c.args.self.now.0 c.text.result.now (g.V.Spell.spelling c.args.self.now.1) c.text.ensures)
 
-pub slice-bounds-put-count : goal.slice-bounds-put-count
-slice-bounds-put-count g c =
+pub slice_bounds-put-count : goal.slice_bounds-put-count
+slice_bounds-put-count g c =
     let l = line_length c.args.self.now.0 c.text.result.now (g.V.Spell.spelling c.args.self.now.1) c.text.ensures in
     omega (arith, put_length (put_next c.put-key.ensures c.write-value.ensures) (omega arith))
 
-pub slice-bounds-put-start : goal.slice-bounds-put-start
-slice-bounds-put-start g c =
+pub slice_bounds-put-start : goal.slice_bounds-put-start
+slice_bounds-put-start g c =
     let l = line_length c.args.self.now.0 c.text.result.now (g.V.Spell.spelling c.args.self.now.1) c.text.ensures in
     omega (arith, put_length (put_next c.put-key.ensures c.write-value.ensures) (omega arith))
 

@@ -6,15 +6,15 @@ use Rattle.chart_writer.proofs.Lists.{list_more, list_fits}
 use Rattle.chart_writer.proofs.Rest.{put_next, put_as, lent}
 use Rattle.chart_writer.proofs.value.ArrayVecSpell.write.Goals as goal
 
-pub slice-bounds-write-count : goal.slice-bounds-write-count
-slice-bounds-write-count g c =
+pub slice_bounds-write-count : goal.slice_bounds-write-count
+slice_bounds-write-count g c =
     let k = g.E.Element.kind in
     let all = ap (λ ys. length (list_text k ys)) c.as_slice-list.ensures.value in
     let q = ap₂ (λ a e. a ++ k.spell e) c.placed.ensures.comma c.placed.ensures.element in
     omega (arith, list_fits k c.as_slice-list.result.now c.loop-index.index c.index-list-index.result _ c.loop-index-test.true c.index-list-index.is q)
 
-pub slice-bounds-write-start : goal.slice-bounds-write-start
-slice-bounds-write-start g c =
+pub slice_bounds-write-start : goal.slice_bounds-write-start
+slice_bounds-write-start g c =
     let k = g.E.Element.kind in
     let all = ap (λ ys. length (list_text k ys)) c.as_slice-list.ensures.value in
     let q = ap₂ (λ a e. a ++ k.spell e) c.placed.ensures.comma c.placed.ensures.element in
@@ -29,8 +29,8 @@ write-at-requires g c =
     lent (length w) c.loop-index.invariant
     (omega (arith, list_fits k c.as_slice-list.result.now c.loop-index.index c.index-list-index.result w c.loop-index-test.true c.index-list-index.is q))
 
-pub overflow-add-at : goal.overflow-add-at
-overflow-add-at g c =
+pub overflow_add-at : goal.overflow_add-at
+overflow_add-at g c =
     let k = g.E.Element.kind in
     let w = c.placed.result.0.0.now ++ k.spell c.placed.result.1.0 in
     let all = ap (λ ys. length (list_text k ys)) c.as_slice-list.ensures.value in
