@@ -44,10 +44,10 @@ static STATES: [State; 6] = [
 #[test]
 fn the_worked_chart_has_3_events_3_automata_and_6_states(rt: HostRuntime) -> Result<(), Fail> {
     let drawing = read(WORKED)?;
-    assert_eq!(rt; drawing.name.bytes.as_slice(), b"rower");
+    assert_eq!(rt; drawing.name.bytes.as_slice(), b"rower".as_slice());
     assert_eq!(rt; drawing.events, 3);
-    assert_eq!(rt; drawing.automata.as_slice(), &AUTOMATA);
-    assert_eq!(rt; drawing.states.as_slice(), &STATES);
+    assert_eq!(rt; drawing.automata.as_slice(), AUTOMATA.as_slice());
+    assert_eq!(rt; drawing.states.as_slice(), STATES.as_slice());
     Ok(())
 }
 
@@ -60,10 +60,13 @@ fn the_worked_chart_has_4_transitions_with_their_lists(rt: HostRuntime) -> Resul
     assert!(rt; work.source.0 == 0 && work.trigger.0 == 0 && work.target.0 == 1);
     assert_eq!(rt;
         work.target_determinator.as_slice(),
-        &[StateId(2), StateId(4)]
+        [StateId(2), StateId(4)].as_slice()
     );
     assert!(rt; rest.source.0 == 1 && rest.trigger.0 == 1 && rest.target.0 == 0);
-    assert_eq!(rt; stroke.actions.as_slice(), &[EventId(2)]);
-    assert_eq!(rt; steer.guard.as_slice(), &[Term::Holds(ConditionId(0))]);
+    assert_eq!(rt; stroke.actions.as_slice(), [EventId(2)].as_slice());
+    assert_eq!(rt;
+        steer.guard.as_slice(),
+        [Term::Holds(ConditionId(0))].as_slice()
+    );
     Ok(())
 }

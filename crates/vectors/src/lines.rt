@@ -1,7 +1,7 @@
 // Lines that are unended, too long, under a wrong key, or more than are due.
 use super::text::{LEAST, Piece, WORKED};
 use super::verdict::Verdict::{Accepted, Refused};
-use super::verdict::{Case, Verdict, hold, hold_one, hold_pieces, judged};
+use super::verdict::{Case, Verdict, hold, hold_one, hold_pieces, judged, verdict_on};
 use std::process::Abort;
 use std::test::Fail;
 
@@ -9,7 +9,11 @@ use std::test::Fail;
 fn a_text_cut_off_anywhere_lacks_the_end_of_its_next_line(rt: HostRuntime) -> Result<(), Fail> {
     let mut line = 1u16;
     for (i, byte) in WORKED.iter().enumerate() {
-        judged(&rt, &WORKED[0..i], Refused(2, line, None)).note(i)?;
+        assert_eq!(rt;
+            verdict_on(&WORKED[0..i]),
+            Refused(2, line, None),
+            "cut off at {i}"
+        );
         if *byte == b'\n' {
             line = line.wrapping_add(1);
         }

@@ -26,7 +26,8 @@ fn comes_back(drawing: &Drawing, text: &[u8]) -> bool {
     }
 }
 
-fn verdict_on(text: &[u8]) -> Verdict {
+// What becomes of a text.
+pub fn verdict_on(text: &[u8]) -> Verdict {
     match read(text) {
         Ok(drawing) => {
             if comes_back(&drawing, text) {
@@ -71,7 +72,12 @@ pub fn hold_one(
 ) -> Result<(), Fail> {
     let changed = replaced(heap, text, number, line)?;
     assert!(rt; changed.as_slice() != text);
-    judged(rt, changed.as_slice(), expected).note(format_args!("line {number} written as {line:?}"))
+    assert_eq!(rt;
+        verdict_on(changed.as_slice()),
+        expected,
+        "line {number} written as {line:?}"
+    );
+    Ok(())
 }
 
 // Each case in turn.

@@ -1,5 +1,5 @@
 -- `report::comes_back`: bytes that are as many as the buffer are all that it holds. Assumes nothing.
-use Rattle.std.proofs.Common.{◌≡◌, ℕ, Bool, true, false, List, ◌++◌, length, drop, sym, ap, ◌∙◌, true≢false, append-nil, arith}
+use Rattle.std.proofs.Common.{◌≡◌, ℕ, true, false, List, ◌++◌, length, drop, sym, ap, ◌∙◌, true≢false, append-nil, arith}
 use lib.Seq.{drop-length}
 use Rattle.std.proofs.lemmas.Slice.Eq.{slice_eq-Decides}
 use Rattle.chart_writer.specs.Writes.{Put, Unwritten}
