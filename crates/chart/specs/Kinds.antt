@@ -4,7 +4,7 @@
 --     Named v            a name has 1 to 16 bytes of a to z, 0 to 9 and underscore
 --     name_of v          the name that v is: bounds and bytes are its form
 use Rattle.std.specs.Prelude.{◌≡◌, ℕ, ◌≤◌, Bool, true, cond, ◌&&◌, ◌||◌, ltb, List, [], ◌∷◌, length, Some, None, Ok, Err, codes, Option, Result, ◌==◌, nat_le, nat_lt}
-use Rattle.std.specs.List.{AllByRecursion as All}
+use Rattle.std.specs.List.{AllByRecursion}
 use Rattle.std.specs.Str.{bytes_eq}
 use Rattle.std.specs.Option.{option_map}
 use Rattle.format.specs.Bytes.{number_of, spelled}
@@ -99,7 +99,7 @@ every f (x ∷ xs) = f x && every f xs
 pub record Named (v : List ℕ) : Type 0 where
   pub some : 1 ≤ length v
   pub short : length v ≤ 16
-  pub plain : All (λ b. is_name_byte b ≡ true) v
+  pub plain : AllByRecursion (λ b. is_name_byte b ≡ true) v
 
 abbrev pub name_of : List ℕ → Result (List ℕ) ElementFault
 name_of v = cond (nat_le 1 (length v) && (nat_le (length v) 16 && every is_name_byte v)) (Ok v) (Err (Form 0))

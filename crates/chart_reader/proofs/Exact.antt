@@ -1,6 +1,6 @@
 -- A text is accepted just if it is the spelling of a plan within the limits. Assumes nothing.
 use Rattle.std.proofs.Common.{◌≡◌, ℕ, ◌+◌, ◌*◌, ◌<◌, ◌≤◌, Bool, true, false, ◌&&◌, ltb, leb, List, [], ◌∷◌, ◌++◌, length, Ok, sym, refl, ap, ◌∙◌, subst, ap₂, arith}
-use Rattle.std.specs.List.{flat_map, AllByRecursion as All}
+use Rattle.std.specs.List.{flat_map, AllByRecursion}
 use Rattle.std.proofs.lemmas.Bool.{and_parts, and_from, leb-true, le-leb, ltb-true, lt-ltb}
 use Rattle.format.specs.Bytes.{Free}
 use Rattle.format.specs.Elements.{and_then, Kind, Spells, GoodList, list_text}
@@ -74,18 +74,18 @@ some_exact k wide most limit name law fits small =
 
 -- ---- the name
 
-every_all : (f : ℕ → Bool) (v : List ℕ) → every f v ≡ true → All (λ b. f b ≡ true) v
+every_all : (f : ℕ → Bool) (v : List ℕ) → every f v ≡ true → AllByRecursion (λ b. f b ≡ true) v
 every_all f [] h = tt
 every_all f (x ∷ xs) h = let g = and_parts (f x) (every f xs) h in (g.0, every_all f xs g.1)
 
-all_every : (f : ℕ → Bool) (v : List ℕ) → All (λ b. f b ≡ true) v → every f v ≡ true
+all_every : (f : ℕ → Bool) (v : List ℕ) → AllByRecursion (λ b. f b ≡ true) v → every f v ≡ true
 all_every f [] h = refl
 all_every f (x ∷ xs) h = and_from (f x) (every f xs) h.0 (all_every f xs h.1)
 
 name_byte : (b : ℕ) → is_name_byte b ≡ true → b ≡ 10 → ⊥
 name_byte b h e = let z : ◌≡◌ {A = Bool} false true = sym (ap is_name_byte e) ∙ h in let y : ◌≡◌ {A = ℕ} 0 1 = cc in omega arith
 
-name_free : (v : List ℕ) → All (λ b. is_name_byte b ≡ true) v → Free 10 v
+name_free : (v : List ℕ) → AllByRecursion (λ b. is_name_byte b ≡ true) v → Free 10 v
 name_free [] h = tt
 name_free (x ∷ xs) h = (name_byte x h.0, name_free xs h.1)
 
@@ -159,8 +159,8 @@ transition_lines_exact c e s =
 -- ---- the whole
 
 rows_exact : (c : Counts) (count : ℕ) → c.events ≤ 100 → c.automata ≤ 100 → c.states ≤ 100
-    → Exact (rows c count) (λ x. ((length x.0 ≡ c.automata) × All (GoodAutomaton c) x.0)
-    × (((length x.1.0 ≡ c.states) × All (λ s. s.automaton.0 < c.automata) x.1.0) × ((length x.1.1 ≡ count) × All (GoodTransition c) x.1.1)))
+    → Exact (rows c count) (λ x. ((length x.0 ≡ c.automata) × AllByRecursion (GoodAutomaton c) x.0)
+    × (((length x.1.0 ≡ c.states) × AllByRecursion (λ s. s.automaton.0 < c.automata) x.1.0) × ((length x.1.1 ≡ count) × AllByRecursion (GoodTransition c) x.1.1)))
     (λ x. flat_map automaton_text x.0 ++ (flat_map state_text x.1.0 ++ flat_map transition_text x.1.1))
 rows_exact c count e a s =
     both_exact (2 * c.automata) _ _ _ _ _ _ (times_exact 2 (automaton_lines c) (GoodAutomaton c) automaton_text (automaton_lines_exact c s) c.automata) (λ _ _.
@@ -222,9 +222,9 @@ drawn_exact =
       automata = record { least = omega (arith, a.0); greatest = omega (arith, a.1) };
       states = record { least = omega (arith, s.0); greatest = omega (arith, s.1) };
       transitions = record { least = omega arith; greatest = omega arith };
-      each_automaton = subst (λ w. All (GoodAutomaton w) x.1.1.1.1.1.0) c r.0.1;
-      each_state = subst (λ w. All (λ s. s.automaton.0 < w) x.1.1.1.1.1.1.0) (sym la) r.1.0.1;
-      each_transition = subst (λ w. All (GoodTransition w) x.1.1.1.1.1.1.1) c r.1.1.1;
+      each_automaton = subst (λ w. AllByRecursion (GoodAutomaton w) x.1.1.1.1.1.0) c r.0.1;
+      each_state = subst (λ w. AllByRecursion (λ s. s.automaton.0 < w) x.1.1.1.1.1.1.0) (sym la) r.1.0.1;
+      each_transition = subst (λ w. AllByRecursion (GoodTransition w) x.1.1.1.1.1.1.1) c r.1.1.1;
     })
     (λ p h. (
       h.name,

@@ -4,7 +4,7 @@
 --     text_of p          the text of a plan: five lines of name and counts, then its automata, states and transitions
 --     Within p           every name, count, list and number of the plan is within its limits
 use Rattle.std.specs.Prelude.{◌≡◌, ℕ, ◌<◌, ◌≤◌, true, List, [], ◌∷◌, ◌++◌, length}
-use Rattle.std.specs.List.{flat_map, AllByRecursion as All}
+use Rattle.std.specs.List.{flat_map, AllByRecursion}
 use Rattle.format.specs.Bytes.{spelled}
 use Rattle.format.specs.Elements.{GoodList, list_text}
 use Rattle.chart.specs.declared.drawing.Automaton.{Automaton}
@@ -72,6 +72,6 @@ pub record Within (p : Plan) : Type 0 where
   pub automata : FromTo 1 24 (length p.automata)
   pub states : FromTo 1 64 (length p.states)
   pub transitions : FromTo 0 96 (length p.transitions)
-  pub each_automaton : All (GoodAutomaton (counts_of p)) p.automata
-  pub each_state : All (λ s. s.automaton.0 < length p.automata) p.states
-  pub each_transition : All (GoodTransition (counts_of p)) p.transitions
+  pub each_automaton : AllByRecursion (GoodAutomaton (counts_of p)) p.automata
+  pub each_state : AllByRecursion (λ s. s.automaton.0 < length p.automata) p.states
+  pub each_transition : AllByRecursion (GoodTransition (counts_of p)) p.transitions

@@ -1,6 +1,6 @@
 -- Cutting bytes: what the code finds by index, and that the parts make the whole. Assumes nothing.
 use Rattle.std.proofs.Common.{◌≡◌, ℕ, zero, suc, ◌<◌, eqb, List, [], ◌∷◌, ◌++◌, length, get_or, take, drop, Some, None, Option, sym, refl, ap, ◌∙◌, ap₂, ⊎_elim, arith}
-use Rattle.std.specs.List.{flat_map, AllByRecursion as All}
+use Rattle.std.specs.List.{flat_map, AllByRecursion}
 use Rattle.std.proofs.lemmas.List.{append-nil, length-append}
 use Rattle.std.proofs.lemmas.Bool.{cases_eq, eq-eqb, ne_eqb, eqb-true, cases_Bool}
 use Rattle.format.specs.Bytes.{Free, cut_at, behind, after_key, pieces, onto, commas, elements_of}
@@ -113,7 +113,7 @@ pub free_none : (b : ℕ) (p : List ℕ) → Free b p → cut_at b p ≡ None
 free_none b [] h = refl
 free_none b (x ∷ p) h = let f = ne_eqb x b h.0 in rw f (ap (behind x) (free_none b p h.1))
 
-pub pieces_commas : (p : List ℕ) (ps : List (List ℕ)) → Free 44 p → All (Free 44) ps → pieces (commas (p ∷ ps)) ≡ p ∷ ps
+pub pieces_commas : (p : List ℕ) (ps : List (List ℕ)) → Free 44 p → AllByRecursion (Free 44) ps → pieces (commas (p ∷ ps)) ≡ p ∷ ps
 pieces_commas p [] h k = ap pieces (append-nil p) ∙ pieces_last p (free_none 44 p h)
 pieces_commas p (q ∷ qs) h k = pieces_cut (p ++ (44 ∷ commas (q ∷ qs))) p (commas (q ∷ qs)) (cut_from 44 p (commas (q ∷ qs)) h) ∙ ap (λ z. p ∷ z) (pieces_commas q qs k.0 k.1)
 

@@ -1,7 +1,7 @@
 -- Readers that read exactly what is spelled: one line, one after the other, many times, under other names, and to the
 -- end of the text. Assumes nothing.
 use Rattle.std.proofs.Common.{◌≡◌, ℕ, zero, suc, ◌+◌, ◌-◌, ◌<◌, ◌≤◌, leb, List, [], ◌∷◌, ◌++◌, length, Some, None, Ok, Err, Option, Result, sym, refl, ap, ◌∙◌, subst, ap₂, arith}
-use Rattle.std.specs.List.{flat_map, AllByRecursion as All}
+use Rattle.std.specs.List.{flat_map, AllByRecursion}
 use Rattle.std.proofs.ByRecursion.{All-append}
 use Rattle.std.proofs.lemmas.List.{append_assoc, append-nil, length-append}
 use Rattle.std.proofs.lemmas.Bool.{le-leb}
@@ -122,9 +122,9 @@ module _ {A B : Type 0} (f : A → B) (g : B → A) (p : Reader A) (good : A →
 -- ---- many times
 
 module _ {A : Type 0} (m : ℕ) (p : Reader A) (good : A → Type 0) (spell : A → List ℕ) (each : Exact p good spell) where
-  times_to : (c n : ℕ) (t : List ℕ) (xs : List A) (r : List ℕ) → times c m p n t ≡ Ok (xs, r) → ((length xs ≡ c) × All good xs) × (t ≡ flat_map spell xs ++ r)
+  times_to : (c n : ℕ) (t : List ℕ) (xs : List A) (r : List ℕ) → times c m p n t ≡ Ok (xs, r) → ((length xs ≡ c) × AllByRecursion good xs) × (t ≡ flat_map spell xs ++ r)
   times_to zero n t xs r h =
-      let P : List A × List ℕ → Type 0 = λ w. ((length w.0 ≡ zero) × All good w.0) × (t ≡ flat_map spell w.0 ++ w.1) in
+      let P : List A × List ℕ → Type 0 = λ w. ((length w.0 ≡ zero) × AllByRecursion good w.0) × (t ≡ flat_map spell w.0 ++ w.1) in
       subst P (same_ok ([], t) (xs, r) h) ((refl, tt), refl)
   times_to (suc c) n t xs r h =
       let g = then_ok (p n t) (λ x. and_then (times c m p (n + m) x.1) (λ y. Ok (x.0 ∷ y.0, y.1))) (xs, r) h in
@@ -132,18 +132,18 @@ module _ {A : Type 0} (m : ℕ) (p : Reader A) (good : A → Type 0) (spell : A 
       let j = then_ok (times c m p (n + m) g.0.1) (λ y. Ok (x ∷ y.0, y.1)) (xs, r) g.2 in
       let u = each.to n t x g.0.1 g.1 in
       let v = times_to c (n + m) g.0.1 j.0.0 j.0.1 j.1 in
-      let P : List A × List ℕ → Type 0 = λ w. ((length w.0 ≡ suc c) × All good w.0) × (t ≡ flat_map spell w.0 ++ w.1) in
+      let P : List A × List ℕ → Type 0 = λ w. ((length w.0 ≡ suc c) × AllByRecursion good w.0) × (t ≡ flat_map spell w.0 ++ w.1) in
       subst P (same_ok (x ∷ j.0.0, j.0.1) (xs, r) j.2)
       ((ap suc v.0.0, (u.0, v.0.1)), u.1 ∙ ap (λ s. spell x ++ s) v.1 ∙ sym (append_assoc (spell x) (flat_map spell j.0.0) j.0.1))
 
-  times_from : (xs : List A) (n : ℕ) (r : List ℕ) → All good xs → times (length xs) m p n (flat_map spell xs ++ r) ≡ Ok (xs, r)
+  times_from : (xs : List A) (n : ℕ) (r : List ℕ) → AllByRecursion good xs → times (length xs) m p n (flat_map spell xs ++ r) ≡ Ok (xs, r)
   times_from [] n r h = refl
   times_from (x ∷ xs) n r h =
       ap (λ s. times (suc (length xs)) m p n s) (append_assoc (spell x) (flat_map spell xs) r)
       ∙ ap (λ w. and_then w (λ x. and_then (times (length xs) m p (n + m) x.1) (λ y. Ok (x.0 ∷ y.0, y.1)))) (each.from n x (flat_map spell xs ++ r) h.0)
       ∙ ap (λ w. and_then w (λ y. Ok (x ∷ y.0, y.1))) (times_from xs (n + m) r h.1)
 
-  pub times_exact : (c : ℕ) → Exact (times c m p) (λ xs. (length xs ≡ c) × All good xs) (flat_map spell)
+  pub times_exact : (c : ℕ) → Exact (times c m p) (λ xs. (length xs ≡ c) × AllByRecursion good xs) (flat_map spell)
   times_exact c = record {
     to = times_to c;
     from = λ n xs r h. ap (λ l. times l m p n (flat_map spell xs ++ r)) (sym h.0) ∙ times_from xs n r h.1;

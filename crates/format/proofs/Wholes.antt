@@ -1,6 +1,6 @@
 -- A whole value reads back from its spelling, and from nothing else: one element, and a list of elements. Assumes nothing.
 use Rattle.std.proofs.Common.{◌≡◌, ℕ, ◌+◌, ◌*◌, ◌<◌, ◌≤◌, Bool, true, List, [], ◌∷◌, map, length, Some, None, Ok, Option, sym, refl, ap, ◌∙◌, subst, ap₂, ⊎_elim, mul-le-mul_right, arith}
-use Rattle.std.specs.List.{flat_map, AllByRecursion as All}
+use Rattle.std.specs.List.{flat_map, AllByRecursion}
 use Rattle.std.proofs.ByRecursion.{All-append}
 use Rattle.std.proofs.lemmas.List.{length-append}
 use Rattle.std.proofs.lemmas.Bool.{cases_Bool, lt-ltb}
@@ -40,17 +40,17 @@ elements_to : (v : List ℕ) → v ≡ commas (elements_of v)
 elements_to [] = refl
 elements_to (x ∷ xs) = sym (commas_pieces (x ∷ xs))
 
-joined_free : (ps : List (List ℕ)) → All (Free 10) ps → Free 10 (flat_map (λ q. 44 ∷ q) ps)
+joined_free : (ps : List (List ℕ)) → AllByRecursion (Free 10) ps → Free 10 (flat_map (λ q. 44 ∷ q) ps)
 joined_free [] h = tt
 joined_free (p ∷ ps) h = (λ e. omega arith, All-append (λ x. x ≡ 10 → ⊥) p (flat_map (λ q. 44 ∷ q) ps) h.0 (joined_free ps h.1))
 
-commas_free : (ps : List (List ℕ)) → All (Free 10) ps → Free 10 (commas ps)
+commas_free : (ps : List (List ℕ)) → AllByRecursion (Free 10) ps → Free 10 (commas ps)
 commas_free [] h = tt
 commas_free (p ∷ ps) h = All-append (λ x. x ≡ 10 → ⊥) p (flat_map (λ q. 44 ∷ q) ps) h.0 (joined_free ps h.1)
 
 -- ---- their limits
 
-pub outside_none : {E : Type 0} (inside : E → Bool) (i : ℕ) (es : List E) → first_outside inside i es ≡ None → All (λ e. inside e ≡ true) es
+pub outside_none : {E : Type 0} (inside : E → Bool) (i : ℕ) (es : List E) → first_outside inside i es ≡ None → AllByRecursion (λ e. inside e ≡ true) es
 outside_none inside i [] h = tt
 outside_none inside i (e ∷ es) h =
     ⊎_elim
@@ -58,7 +58,7 @@ outside_none inside i (e ∷ es) h =
     (λ f. let g : Some i ≡ None = rw f at h in absurd (let z : ◌≡◌ {A = ℕ} 0 1 = cc in omega arith))
     (cases_Bool (inside e))
 
-pub none_outside : {E : Type 0} (inside : E → Bool) (i : ℕ) (es : List E) → All (λ e. inside e ≡ true) es → first_outside inside i es ≡ None
+pub none_outside : {E : Type 0} (inside : E → Bool) (i : ℕ) (es : List E) → AllByRecursion (λ e. inside e ≡ true) es → first_outside inside i es ≡ None
 none_outside inside i [] h = refl
 none_outside inside i (e ∷ es) h = let t = h.0 in rw t (none_outside inside (i + 1) es h.1)
 
@@ -78,7 +78,7 @@ module _ {E : Type 0} (k : Kind E) (most wide : ℕ) (law : Spells k wide) where
       let x : k.shape p ≡ Some e = cc in let y : map k.shape ps ≡ map (λ e. Some e) es = cc in
       ap₂ (λ q qs. q ∷ qs) (law.to p e x) (shapes_spelled ps es y)
 
-  formed_from : (limit : ℕ) → limit ≤ 100 → (i : ℕ) (before : Option E) (es : List E) → i + length es ≤ most → All (λ e. k.inside limit e ≡ true) es → Ascends k before es
+  formed_from : (limit : ℕ) → limit ≤ 100 → (i : ℕ) (before : Option E) (es : List E) → i + length es ≤ most → AllByRecursion (λ e. k.inside limit e ≡ true) es → Ascends k before es
       → formed k most i before (map k.spell es) ≡ Ok es
   formed_from limit small i before [] l h a = refl
   formed_from limit small i before (e ∷ es) l h a =
@@ -88,7 +88,7 @@ module _ {E : Type 0} (k : Kind E) (most wide : ℕ) (law : Spells k wide) where
       ap (λ r. and_then r (λ e. put_first e (formed k most (i + 1) (Some e) (map k.spell es)))) one
       ∙ ap (put_first e) (formed_from limit small (i + 1) (Some e) es (omega arith) h.1 a.1)
 
-  each_free : (b : ℕ) → b < 48 → (es : List E) → All (Free b) (map k.spell es)
+  each_free : (b : ℕ) → b < 48 → (es : List E) → AllByRecursion (Free b) (map k.spell es)
   each_free b h [] = tt
   each_free b h (e ∷ es) = (law.free b h e, each_free b h es)
 
@@ -119,7 +119,7 @@ module _ {E : Type 0} (k : Kind E) (most wide : ℕ) (law : Spells k wide) where
           record {
             few = subst (λ ys. length ys ≤ most) e (omega (arith, f.1 (omega arith)));
             order = subst (Ascends k None) e f.2;
-            range = subst (All (λ e. k.inside limit e ≡ true)) e (outside_none (k.inside limit) 0 g.0 u.0);
+            range = subst (AllByRecursion (λ e. k.inside limit e ≡ true)) e (outside_none (k.inside limit) 0 g.0 u.0);
           },
           elements_to v ∙ ap commas (shapes_spelled (elements_of v) g.0 f.0 ∙ ap (λ ys. map k.spell ys) e),
         );

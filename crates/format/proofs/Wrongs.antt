@@ -1,6 +1,6 @@
 -- The readers' faults are just what is wrong, by the rules. Assumes nothing.
 use Rattle.std.proofs.Common.{◌≡◌, ℕ, suc, ◌+◌, ◌<◌, ◌≤◌, Bool, true, false, ltb, leb, ◌⊎◌, List, [], ◌∷◌, ◌++◌, map, length, Some, None, Ok, Err, Option, Result, sym, refl, ap, ◌∙◌, subst, ap₂, inl, inr, ⊎_elim, arith}
-use Rattle.std.specs.List.{AllByRecursion as All}
+use Rattle.std.specs.List.{AllByRecursion}
 use Rattle.std.specs.Option.{option_map}
 use Rattle.std.proofs.lemmas.List.{length_push, append_assoc, map_push}
 use Rattle.std.proofs.lemmas.Bool.{cases_Bool, cases_eq, cases_lt, eq-eqb, ne_eqb, le-leb, lt-leb, leb-true, leb-false, lt-ltb, le-ltb}
@@ -181,7 +181,7 @@ pub record FirstOutside {E : Type 0} (inside : E → Bool) (es : List E) : Type 
   pub item : E
   pub after : List E
   pub split : es ≡ before ++ (item ∷ after)
-  pub right : All (λ e. inside e ≡ true) before
+  pub right : AllByRecursion (λ e. inside e ≡ true) before
   pub wrong : inside item ≡ false
 
 range_to : {E : Type 0} (inside : E → Bool) (i : ℕ) (es : List E) (j : ℕ) → first_outside inside i es ≡ Some j → (o : FirstOutside inside es) × (i + length o.before ≡ j)
@@ -193,7 +193,7 @@ range_to inside i (e ∷ es) j h =
     (λ f. let q = same_some i j (rw f at h) in (record { before = []; item = e; after = es; split = refl; right = tt; wrong = f }, omega arith))
     (cases_Bool (inside e))
 
-range_from : {E : Type 0} (inside : E → Bool) (i : ℕ) (before : List E) (e : E) (after : List E) → All (λ x. inside x ≡ true) before → inside e ≡ false
+range_from : {E : Type 0} (inside : E → Bool) (i : ℕ) (before : List E) (e : E) (after : List E) → AllByRecursion (λ x. inside x ≡ true) before → inside e ≡ false
     → first_outside inside i (before ++ (e ∷ after)) ≡ Some (i + length before)
 range_from inside i [] e after h f = let z : i + 0 ≡ i = omega arith in rw f (ap (λ j. Some j) (sym z))
 range_from inside i (x ∷ xs) e after h f =

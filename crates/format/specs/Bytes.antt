@@ -8,10 +8,10 @@
 --     spelled n          the digits of a number below 100
 --     Free b xs          no byte of xs is b
 use Rattle.std.specs.Prelude.{ℕ, ◌+◌, ◌-◌, ◌*◌, ◌/◌, ◌%◌, Bool, cond, ◌&&◌, List, [], ◌∷◌, ◌++◌, Some, None, Option, ◌==◌, ◌≢◌, nat_le, nat_lt}
-use Rattle.std.specs.List.{flat_map, AllByRecursion as All}
+use Rattle.std.specs.List.{flat_map, AllByRecursion}
 
 abbrev pub Free : ℕ → List ℕ → Type 0
-Free b xs = All (λ x. x ≢ b) xs
+Free b xs = AllByRecursion (λ x. x ≢ b) xs
 
 abbrev pub behind : ℕ → Option (List ℕ × List ℕ) → Option (List ℕ × List ℕ)
 behind x None = None

@@ -12,7 +12,7 @@
 --     GoodList k m l es at most m elements, in order, each within its limits
 --     list_text k es     the elements as they are written
 use Rattle.std.specs.Prelude.{◌≡◌, ℕ, ◌+◌, ◌<◌, ◌≤◌, Bool, true, cond, List, [], ◌∷◌, ◌++◌, map, length, Some, None, Ok, Err, Option, Result, nat_lt}
-use Rattle.std.specs.List.{AllByRecursion as All}
+use Rattle.std.specs.List.{AllByRecursion}
 use Rattle.std.specs.Option.{option_map}
 use Rattle.fixed.specs.Items.{last_of}
 use Rattle.format.specs.Bytes.{elements_of, commas, number_of, spelled, Free}
@@ -95,7 +95,7 @@ Ascends k before (e ∷ es) = (follows k before e ≡ true) × Ascends k (Some e
 pub record GoodList {E : Type 0} (k : Kind E) (most limit : ℕ) (es : List E) : Type 0 where
   pub few : length es ≤ most
   pub order : Ascends k None es
-  pub range : All (λ e. k.inside limit e ≡ true) es
+  pub range : AllByRecursion (λ e. k.inside limit e ≡ true) es
 
 abbrev pub list_text : {E : Type 0} → Kind E → List E → List ℕ
 list_text k es = commas (map k.spell es)

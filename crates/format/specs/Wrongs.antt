@@ -6,7 +6,7 @@
 --                             first outside its limits
 --     LineWrong k b n s f    line n, which begins s, has the fault f, where k is its key and b says what a value's faults are
 use Rattle.std.specs.Prelude.{◌≡◌, ℕ, ◌<◌, ◌≤◌, true, false, List, ◌∷◌, ◌++◌, map, length, Some, None, ◌≢◌}
-use Rattle.std.specs.List.{AllByRecursion as All}
+use Rattle.std.specs.List.{AllByRecursion}
 use Rattle.fixed.specs.Items.{last_of}
 use Rattle.format.specs.Bytes.{Free, elements_of}
 use Rattle.format.specs.Elements.{Kind, follows, Ascends}
@@ -33,7 +33,7 @@ pub data ListWrong {E : Type 0} (k : Kind E) (most limit : ℕ) (v : List ℕ) :
   form : (ps : List (List ℕ)) (p : List ℕ) (qs : List (List ℕ)) (es : List E)
       → elements_of v ≡ ps ++ (p ∷ qs) → Formed k most ps es → Misplaced k most es p → ListWrong k most limit v (Form (length es))
   range : (es : List E) (e : E) (fs : List E)
-      → Formed k most (elements_of v) (es ++ (e ∷ fs)) → All (λ x. k.inside limit x ≡ true) es → k.inside limit e ≡ false → ListWrong k most limit v (Range (length es))
+      → Formed k most (elements_of v) (es ++ (e ∷ fs)) → AllByRecursion (λ x. k.inside limit x ≡ true) es → k.inside limit e ≡ false → ListWrong k most limit v (Range (length es))
 
 pub data LineWrong (key : List ℕ) (bad : List ℕ → ElementFault → Type 0) (n : ℕ) (s : List ℕ) : LineFault → Type 0 where
   unended : Free 10 s → LineWrong key bad n s (Unended n)
