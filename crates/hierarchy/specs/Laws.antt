@@ -4,7 +4,7 @@
 --     OneEntered h t a     of the states of automaton a, transition t enters exactly one
 --     LandingLaw           of each automaton under a state that a transition enters, exactly one state is entered
 use Rattle.std.specs.Prelude.{◌≡◌, ℕ, ◌<◌, ◌≢◌, ◌⊎◌}
-use Rattle.hierarchy.specs.Hierarchies.{◌∈◌, these, Hierarchy, Under, Below, Orthogonal, Conflict}
+use Rattle.hierarchy.specs.Hierarchies.{◌∈◌, these, Hierarchy, Under, Below, Orthogonal}
 use Rattle.hierarchy.specs.Rules.{Rooted, Sound}
 
 pub record TreeLaws (h : Hierarchy) : Type 0 where

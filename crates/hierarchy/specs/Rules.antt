@@ -9,7 +9,7 @@
 --     Sound h               every rule is kept
 --     FirstBroken h f      f is the first rule that is broken, and what it names: each automaton in turn by its place and
 --                           then by its initial state; then each transition by its ends, its restriction, its determinator
-use Rattle.std.specs.Prelude.{◌≡◌, ℕ, ◌<◌, false, ◌≢◌, ◌⊎◌, Some, None}
+use Rattle.std.specs.Prelude.{◌≡◌, ℕ, ◌<◌, false, ◌≢◌, ◌⊎◌, None}
 use Rattle.chart.specs.Kinds.{automaton_no}
 use Rattle.hierarchy.specs.Hierarchies.{◌∈◌, these, Hierarchy, Under, Basic, Below, Orthogonal}
 use Rattle.hierarchy.specs.Faults.{transition_no}
