@@ -3,7 +3,6 @@ use Rattle.std.proofs.Common.{◌≡◌, ℕ, ◌<◌, ◌≤◌, Bool, true, fa
 use lib.ListN.{get_or-replicate, length-replicate}
 use Rattle.std.proofs.lemmas.Option.{slice_get-get_or, slice_get_past}
 use Rattle.std.proofs.lemmas.Bool.{cases_lt, cases_eq, eq-eqb, ne_eqb, lt-ltb, le-ltb}
-use Rattle.std.specs.List.{slice_get}
 use Rattle.set64.specs.Sets.{has}
 use Rattle.set64.specs.declared.Set64.{Set64}
 use Rattle.chart_tree.specs.Tables.{held, set_at}
