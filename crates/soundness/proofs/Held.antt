@@ -1,12 +1,12 @@
 -- What a chart holds by its type, taken out of the type: each fact is decided, so none can fail. Assumes nothing.
-use Rattle.std.proofs.Common.{ℕ, ◌<◌, ◌≤◌, Bool, Decides, inl, inr, arith}
+use Rattle.std.proofs.Common.{ℕ, Bool, Decides, inl, inr, arith}
 use mathlib.Core.HLevel.{⊥_prop}
 use mathlib.Core.Logic.{∥∥₁_elim, ∥∥₁_prop}
 use Rattle.std.proofs.lemmas.Bool.{both_ways, cases_Bool, cases_lt}
-use Rattle.hierarchy.specs.Hierarchies.{Hierarchy, Under, Basic, Proper}
+use Rattle.hierarchy.specs.Hierarchies.{Hierarchy, Under, Proper}
 use Rattle.hierarchy.specs.Rules.{Rooted, Sound}
 use Rattle.hierarchy.proofs.Checks.{decide_sound}
-use Rattle.hierarchy.proofs.Tells.{decided_by, tells_below, tells_orthogonal, tells_basic}
+use Rattle.hierarchy.proofs.Tells.{decided_by, tells_below, tells_orthogonal}
 use Rattle.hierarchy.proofs.Tree.{Decided, least}
 use Rattle.hierarchy.proofs.Landings.{decide_under}
 use Rattle.chart_tree.specs.Outlines.{drawn}
