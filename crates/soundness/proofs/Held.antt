@@ -1,7 +1,7 @@
 -- What a chart holds by its type, taken out of the type: each fact is decided, so none can fail. Assumes nothing.
 use Rattle.std.proofs.Common.{ℕ, Bool, Decides, inl, inr, arith}
 use mathlib.Core.HLevel.{⊥_prop}
-use mathlib.Core.Logic.{∥∥₁_elim, ∥∥₁_prop}
+use Rattle.std.proofs.Math.Logic.{∥∥₁_elim, ∥∥₁_prop}
 use Rattle.std.proofs.lemmas.Bool.{both_ways, cases_Bool, cases_lt}
 use Rattle.hierarchy.specs.Hierarchies.{Hierarchy, Under, Proper}
 use Rattle.hierarchy.specs.Rules.{Rooted, Sound}
