@@ -9,9 +9,9 @@ pub same_set : (a b : Set64) → a.word ≡ b.word → a ≡ b
 same_set a b e = ap (λ w. record { word = w }) e
 
 -- two sets with the same members are one set
-pub same_members : (a b : Set64) → a.word < 2 ^ 64 → b.word < 2 ^ 64 → ((n : ℕ) → has a n ≡ has b n) → a ≡ b
+pub same_members : (a b : Set64) → ((n : ℕ) → has a n ≡ has b n) → a ≡ b
 unfolding has
-same_members a b p q h = same_set a b (same_word 64 a.word b.word p q h)
+same_members a b h = same_set a b (same_word a.word b.word h)
 
 pub below_64 : (s : Set64) (n : ℕ) → s.word < 2 ^ 64 → has s n ≡ true → n < 64
 unfolding has

@@ -1,6 +1,7 @@
 -- The members of a set as a list, one member less, and its length. Assumes nothing.
-use Rattle.std.proofs.Common.{◌≡◌, ℕ, zero, suc, ◌+◌, ◌/◌, ◌%◌, ◌^◌, ◌<◌, ◌≤◌, Bool, true, false, cond, not, ◌&&◌, eqb, List, [], ◌∷◌, length, filter, sym, refl, ap, ◌∙◌, ap₂, ⊎_elim, add-zero, pow-suc, zero-add, arith}
-use lib.Count.{ones, ones_step, ones-le}
+use Rattle.std.proofs.Common.{◌≡◌, ℕ, zero, suc, ◌+◌, ◌/◌, ◌%◌, ◌^◌, ◌<◌, ◌≤◌, Bool, true, false, cond, not, ◌&&◌, eqb, [], ◌∷◌, length, filter, sym, refl, ap, ◌∙◌, ap₂, ⊎_elim, add-zero, pow-suc, zero-add, arith}
+use Rattle.std.specs.Int.Count.{ones, ones_step}
+use Rattle.std.proofs.lemmas.Nat.{ones-le}
 use Rattle.std.specs.List.{range_with_len}
 use Rattle.std.proofs.lemmas.List.Sums.{length-filter, count_by-le-length}
 use Rattle.std.proofs.lemmas.Bool.{cases_eq, cases_Bool, and_left, and_right, not_from_true, eq-eqb, eqb-true, eqb-false}
@@ -52,12 +53,9 @@ pub members_next : (s r : Set64) (n : ℕ) → n < 64 → Least s n → ((m : �
 unfolding members
 members_next s r n lt least d = kept_next (has s) (has r) n 0 64 least.0 least.1 d (omega arith) (omega arith)
 
-kept_le : (p : ℕ → Bool) (xs : List ℕ) → length (filter p xs) ≤ length xs
-kept_le p xs = omega (arith, length-filter p xs, count_by-le-length p xs)
-
 pub length_members_le : (s : Set64) → length (members s) ≤ 64
 unfolding members
-length_members_le s = kept_le (has s) (range_with_len 0 64)
+length_members_le s = let p = has s in let xs = range_with_len 0 64 in omega (arith, length-filter p xs, count_by-le-length p xs)
 
 pub length_members : (s : Set64) → s.word < 2 ^ 64 → length (members s) ≡ ones s.word
 unfolding members has

@@ -6,14 +6,10 @@ use Rattle.set64.specs.declared.Set64.{Set64}
 use Rattle.set64.proofs.Alike.{same_set, same_members}
 use Rattle.set64.proofs.Set64.is_same.Goals as goal
 
-pub returns : goal.returns
-returns c =
+pub returns-clause-alike : goal.returns-clause-alike
+returns-clause-alike c =
     let a = c.args.self in
-    let b = c.args.other in
-    record {
-      alike = (
-        λ t n. ap (λ s. has s n) (same_set a b (grind (arith, nat_tests))),
-        λ h. let e = ap (λ (s : Set64). s.word) (same_members a b (omega arith) (omega arith) h) in grind (arith, nat_tests),
-      );
-      one = (λ t. same_set a b (grind (arith, nat_tests)), λ e. let w = ap (λ (s : Set64). s.word) e in grind (arith, nat_tests));
-    }
+    let b = c.args.other in (
+      λ t n. ap (λ s. has s n) (same_set a b (grind (arith, nat_tests))),
+      λ h. let e = ap (λ (s : Set64). s.word) (same_members a b h) in grind (arith, nat_tests),
+    )

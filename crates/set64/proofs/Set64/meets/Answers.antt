@@ -10,6 +10,6 @@ unfolding has
 returns c =
     let a = c.args.self.word in
     let b = c.args.other.word in (
-      λ t. common_bit 64 a b (omega arith) (omega arith) (grind (arith, nat_tests)),
+      λ t. common_bit a b (omega arith) (omega arith) (grind (arith, nat_tests)),
       λ h. let more = common_more a b h.0 h.1 h.2 in grind (arith, nat_tests),
     )

@@ -10,7 +10,7 @@ returns-then-n-lt64 c m =
     let w = c.args.self.word in
     let n = c.args.n in
     let one = ap (λ x. bit m w && not x) (shifted_bit m n c.if-n-lt64.true) in
-    digit_of m _ _ _ (without_bit 64 m w ((1 * 2 ^ n) % 2 ^ 64) (omega arith) (omega arith) ∙ one) (omega arith)
+    digit_of m _ _ _ (without_bit m w ((1 * 2 ^ n) % 2 ^ 64) (omega arith) (omega arith) ∙ one) (omega arith)
 
 pub returns-else-n-lt64 : goal.returns-else-n-lt64
 unfolding has

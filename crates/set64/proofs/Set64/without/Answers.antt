@@ -6,4 +6,4 @@ use Rattle.set64.proofs.Set64.without.Goals as goal
 
 pub returns : goal.returns
 unfolding has
-returns c m = digit_of m _ _ _ (without_bit 64 m c.args.self.word c.args.other.word (omega arith) (omega arith)) (omega arith)
+returns c m = digit_of m _ _ _ (without_bit m c.args.self.word c.args.other.word (omega arith) (omega arith)) (omega arith)
