@@ -13,7 +13,7 @@ use Rattle.chart_tree.specs.Outlines.{drawn}
 use Rattle.chart_tree.specs.Trees.{Outlines}
 use Rattle.chart_tree.specs.declared.tree.Tree.{Tree}
 use Rattle.chart_tree.proofs.Drawn.{proper}
-use Rattle.soundness.specs.declared.chart.Chart.{Chart}
+use Rattle.soundness.specs.declared.sound_chart.Chart.{Chart}
 
 never : {A : Type 0} → ∥ A ∥₁ → (A → ⊥) → ⊥
 never t no_such = ∥∥₁_elim t ⊥_prop no_such

@@ -19,7 +19,7 @@ use Rattle.hierarchy.specs.Hierarchies.{Hierarchy, Below, Conflict}
 use Rattle.hierarchy.specs.Meant.{hierarchy_of}
 use Rattle.hierarchy.specs.declared.fault.ChartFault.{ChartFault}
 use Rattle.chart_tree.specs.Outlines.{drawn}
-use Rattle.soundness.specs.declared.chart.Chart.{Chart}
+use Rattle.soundness.specs.declared.sound_chart.Chart.{Chart}
 
 abbrev pub chart_drawing : Chart → Drawing
 chart_drawing c = c.drawing
