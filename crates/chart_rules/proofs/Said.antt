@@ -1,7 +1,6 @@
 -- A transition in its place of the drawing's list. Assumes nothing.
-use Rattle.std.proofs.Common.{◌≡◌, ℕ, ◌<◌, List, map, length, get_or, sym, refl, ap, ◌∙◌, arith}
-use lib.ListN.{length-map}
-use Rattle.std.proofs.lemmas.List.{get_or-map, get_or_default}
+use Rattle.std.proofs.Common.{◌≡◌, ℕ, ◌<◌, List, map, length, get_or, sym, ap, ◌∙◌, arith}
+use Rattle.std.proofs.lemmas.List.{length-map, get_or-map}
 use Rattle.fixed.specs.Items.{items}
 use Rattle.chart.specs.Plans.{TransitionPlan, transition_plan}
 use Rattle.chart.specs.declared.drawing.Drawing.{Drawing}

@@ -4,7 +4,7 @@
 --     Covers h E vs         no other state of the set E is orthogonal to all of the list
 --     Determines h u vs     the list has only basic states below u, pairwise orthogonal, and no other such state is orthogonal to all
 --     Says h t x            x is transition t of the hierarchy
-use Rattle.std.specs.Prelude.{◌≡◌, ℕ, ◌<◌, true, false, ◌≢◌, List}
+use Rattle.std.specs.Prelude.{◌≡◌, ℕ, ◌<◌, false, ◌≢◌, List}
 use Rattle.fixed.specs.Items.{items}
 use Rattle.chart.specs.declared.id.StateId.{StateId}
 use Rattle.chart.specs.declared.drawing.Transition.{Transition}

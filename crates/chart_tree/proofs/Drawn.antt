@@ -1,11 +1,10 @@
 -- The parts of a drawing's hierarchy, by the places of its lists. Assumes nothing.
-use Rattle.std.proofs.Common.{◌≡◌, ℕ, ◌<◌, ◌≤◌, List, length, get_or, Some, None, sym, refl, ap, ◌∙◌, subst, arith}
+use Rattle.std.proofs.Common.{◌≡◌, ℕ, ◌<◌, ◌≤◌, List, length, get_or, None, sym, refl, ap, ◌∙◌, arith}
 use Rattle.std.proofs.lemmas.List.{get_or_default, get_or_past}
 use Rattle.fixed.specs.Items.{items}
 use Rattle.chart.specs.Plans.{plan_of}
 use Rattle.chart.specs.declared.drawing.Automaton.{Automaton}
 use Rattle.chart.specs.declared.drawing.Drawing.{Drawing}
-use Rattle.chart.specs.declared.drawing.Parent.{Parent}
 use Rattle.chart.specs.declared.drawing.State.{State}
 use Rattle.hierarchy.specs.Hierarchies.{Proper}
 use Rattle.hierarchy.specs.Meant.{parent_state, no_automaton, no_state}

@@ -1,7 +1,7 @@
 -- What a drawing's parts are in its hierarchy. Assumes nothing.
 --     drawn d             the hierarchy that a drawing means
 --     home_in h v         the automaton that v lies in, if there are both in the chart
---     StandGives h a r   r is the state that automaton a stands under, and that state's automaton, if they are in the chart
+--     StandGives h a r    r is the state that automaton a stands under, and that state's automaton, if they are in the chart
 use Rattle.std.specs.Prelude.{◌≡◌, ℕ, ◌<◌, ◌≤◌, cond, Some, None, Option, nat_lt}
 use Rattle.chart.specs.Kinds.{automaton_no}
 use Rattle.chart.specs.Plans.{plan_of}

@@ -5,7 +5,7 @@
 --     below h v u, ..       what the relations of these names say, by search
 --     first_of n f          the first of f 0, f 1, .. that is some fault
 --     first_fault h         the first rule that is broken
---     CheckLaw             no fault is found exactly where the hierarchy is sound, and a fault exactly where it is the first broken rule
+--     CheckLaw              no fault is found exactly where the hierarchy is sound, and a fault exactly where it is the first broken rule
 use Rattle.std.specs.Prelude.{◌≡◌, ℕ, zero, suc, max, Bool, true, false, cond, not, ◌&&◌, ◌||◌, ltb, ◌↔◌, List, [], ◌∷◌, Some, None, Option, ◌==◌, nat_eq, nat_lt}
 use Rattle.chart.specs.Kinds.{automaton_no}
 use Rattle.chart.specs.declared.id.StateId.{StateId}

@@ -6,7 +6,7 @@
 --     Under h a p           automaton a stands under state p
 --     Basic h v             no automaton stands under state v
 --     Below h v u           state v lies in an automaton under u, or in one under a state below u
---     AtOrBelow h v u     v is u, or below u
+--     AtOrBelow h v u       v is u, or below u
 --     Lies h v a            state v lies in automaton a, or below one of its states
 --     Orthogonal h v w      v and w lie in or below two different automata under one same state
 --     Conflict h t u        two different transitions whose sources are equal, or one below the other

@@ -1,10 +1,10 @@
 -- The laws of a sound chart's tree, and of the states that a transition enters. Assumes nothing.
 --     TreeLaws h           below is a strict order, the states above a state form a chain, orthogonal states are apart
---     Enters h t v          transition t enters its target, the states of its determinator, and all states between
+--     Enters h t v         transition t enters its target, the states of its determinator, and all states between
 --     OneEntered h t a     of the states of automaton a, transition t enters exactly one
 --     LandingLaw           of each automaton under a state that a transition enters, exactly one state is entered
 use Rattle.std.specs.Prelude.{◌≡◌, ℕ, ◌<◌, ◌≢◌, ◌⊎◌}
-use Rattle.hierarchy.specs.Hierarchies.{◌∈◌, these, Hierarchy, Under, Below, Orthogonal, Conflict}
+use Rattle.hierarchy.specs.Hierarchies.{◌∈◌, these, Hierarchy, Under, Below, Orthogonal}
 use Rattle.hierarchy.specs.Rules.{Rooted, Sound}
 
 pub record TreeLaws (h : Hierarchy) : Type 0 where

@@ -1,7 +1,7 @@
 -- What a plan means as a hierarchy: its lists as functions from numbers. Assumes nothing.
 --     hierarchy_of p        the hierarchy that a plan draws
---     MeantProper          whatever a plan says, its hierarchy tells the chart's numbers from others
-use Rattle.std.specs.Prelude.{ℕ, List, [], length, Some, None, Option, slice_index_or}
+--     MeantProper           whatever a plan says, its hierarchy tells the chart's numbers from others
+use Rattle.std.specs.Prelude.{ℕ, [], length, Some, None, Option, slice_index_or}
 use Rattle.chart.specs.Kinds.{state_no, automaton_no, event_no}
 use Rattle.chart.specs.Plans.{Plan, TransitionPlan}
 use Rattle.chart.specs.declared.drawing.Automaton.{Automaton}

@@ -3,13 +3,13 @@
 --     Starts h a            the initial state of automaton a lies in it
 --     Rooted h              what the rules on automata make of them: a tree, with each initial state in its place
 --     Joins h t             source and target of transition t lie in one automaton
---     WellFormed h t       its restriction has only states below its source, pairwise orthogonal
+--     WellFormed h t        its restriction has only states below its source, pairwise orthogonal
 --     Full h t              its determinator has only basic states below its target, pairwise orthogonal, and no other basic
 --                           state below the target is orthogonal to all of them
 --     Sound h               every rule is kept
---     FirstBroken h f      f is the first rule that is broken, and what it names: each automaton in turn by its place and
+--     FirstBroken h f       f is the first rule that is broken, and what it names: each automaton in turn by its place and
 --                           then by its initial state; then each transition by its ends, its restriction, its determinator
-use Rattle.std.specs.Prelude.{◌≡◌, ℕ, ◌<◌, false, ◌≢◌, ◌⊎◌, Some, None}
+use Rattle.std.specs.Prelude.{◌≡◌, ℕ, ◌<◌, false, ◌≢◌, ◌⊎◌, None}
 use Rattle.chart.specs.Kinds.{automaton_no}
 use Rattle.hierarchy.specs.Hierarchies.{◌∈◌, these, Hierarchy, Under, Basic, Below, Orthogonal}
 use Rattle.hierarchy.specs.Faults.{transition_no}

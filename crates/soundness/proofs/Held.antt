@@ -1,19 +1,19 @@
 -- What a chart holds by its type, taken out of the type: each fact is decided, so none can fail. Assumes nothing.
-use Rattle.std.proofs.Common.{ℕ, ◌<◌, ◌≤◌, Bool, Decides, inl, inr, arith}
+use Rattle.std.proofs.Common.{ℕ, Bool, Decides, inl, inr, arith}
 use mathlib.Core.HLevel.{⊥_prop}
-use mathlib.Core.Logic.{∥∥₁_elim, ∥∥₁_prop}
+use Rattle.std.proofs.Math.Logic.{∥∥₁_elim, ∥∥₁_prop}
 use Rattle.std.proofs.lemmas.Bool.{both_ways, cases_Bool, cases_lt}
-use Rattle.hierarchy.specs.Hierarchies.{Hierarchy, Under, Basic, Proper}
+use Rattle.hierarchy.specs.Hierarchies.{Hierarchy, Under, Proper}
 use Rattle.hierarchy.specs.Rules.{Rooted, Sound}
 use Rattle.hierarchy.proofs.Checks.{decide_sound}
-use Rattle.hierarchy.proofs.Tells.{decided_by, tells_below, tells_orthogonal, tells_basic}
+use Rattle.hierarchy.proofs.Tells.{decided_by, tells_below, tells_orthogonal}
 use Rattle.hierarchy.proofs.Tree.{Decided, least}
 use Rattle.hierarchy.proofs.Landings.{decide_under}
 use Rattle.chart_tree.specs.Outlines.{drawn}
 use Rattle.chart_tree.specs.Trees.{Outlines}
 use Rattle.chart_tree.specs.declared.tree.Tree.{Tree}
 use Rattle.chart_tree.proofs.Drawn.{proper}
-use Rattle.soundness.specs.declared.chart.Chart.{Chart}
+use Rattle.soundness.specs.declared.sound_chart.Chart.{Chart}
 
 never : {A : Type 0} → ∥ A ∥₁ → (A → ⊥) → ⊥
 never t no_such = ∥∥₁_elim t ⊥_prop no_such

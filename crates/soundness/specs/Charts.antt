@@ -3,11 +3,11 @@
 --     chart_plan c          what the drawing says
 --     chart_hierarchy c     the hierarchy that it means
 --     checked d             the drawing itself, where it breaks no rule; else the first rule that it breaks
---     SourceGives h t r    r is the source of transition t, if the chart has it
+--     SourceGives h t r     r is the source of transition t, if the chart has it
 --     Related h u v         two states are equal, or one is below the other
---     KnownConflict h t u  t and u are transitions of the chart, and conflict
+--     KnownConflict h t u   t and u are transitions of the chart, and conflict
 --     none_plan             the chart `none`: one event, one automaton, one state, no transition
---     RulesLaw             what the calculation of the first broken rule means, for every plan
+--     RulesLaw              what the calculation of the first broken rule means, for every plan
 use Rattle.std.specs.Prelude.{◌≡◌, ℕ, ◌<◌, ◌≤◌, ◌⊎◌, [], ◌∷◌, Some, None, Ok, Err, codes, Option, Result}
 use Rattle.chart.specs.declared.id.StateId.{StateId}
 use Rattle.chart.specs.declared.drawing.Drawing.{Drawing}
@@ -19,7 +19,7 @@ use Rattle.hierarchy.specs.Hierarchies.{Hierarchy, Below, Conflict}
 use Rattle.hierarchy.specs.Meant.{hierarchy_of}
 use Rattle.hierarchy.specs.declared.fault.ChartFault.{ChartFault}
 use Rattle.chart_tree.specs.Outlines.{drawn}
-use Rattle.soundness.specs.declared.chart.Chart.{Chart}
+use Rattle.soundness.specs.declared.sound_chart.Chart.{Chart}
 
 abbrev pub chart_drawing : Chart → Drawing
 chart_drawing c = c.drawing

@@ -5,7 +5,7 @@ ghost use Rattle.hierarchy.specs.Laws.{LandingLaw};
 ghost use Rattle.hierarchy.specs.Rower.{Rows};
 ghost use Rattle.soundness.specs.Charts.{chart_drawing, checked, RulesLaw};
 
-use super::chart::Chart;
+use super::sound_chart::Chart;
 use chart::drawing::Drawing;
 use chart::id::StateId;
 use chart_rules::automaton::automata_fault;

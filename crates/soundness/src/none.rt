@@ -3,8 +3,8 @@ ghost use Rattle.std.specs.Prelude.{◌≡◌};
 ghost use Rattle.chart.specs.Plans.{plan_of};
 ghost use Rattle.soundness.specs.Charts.{chart_plan, none_plan};
 
-use super::chart::Chart;
 use super::check::judge;
+use super::sound_chart::Chart;
 use chart::drawing::{Automaton, Drawing, Name, Parent, State};
 use chart::id::{AutomatonId, StateId};
 use fixed::array_vec::ArrayVec;

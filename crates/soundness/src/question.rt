@@ -5,7 +5,7 @@ ghost use Rattle.hierarchy.specs.Laws.{TreeLaws};
 ghost use Rattle.hierarchy.specs.Rules.{Sound};
 ghost use Rattle.soundness.specs.Charts.{chart_drawing, chart_hierarchy, SourceGives, Related, KnownConflict};
 
-use super::chart::Chart;
+use super::sound_chart::Chart;
 use chart::drawing::Drawing;
 use chart::id::{StateId, TransitionId};
 use chart_tree::outline::home_of;

@@ -1,5 +1,5 @@
 -- `automaton::automata_fault`: one automaton after the other. Assumes nothing.
-use Rattle.std.proofs.Common.{◌≡◌, ◌<◌, ◌≤◌, max, sym, ap, ◌∙◌, arith}
+use Rattle.std.proofs.Common.{max, sym, ◌∙◌, arith}
 use Rattle.hierarchy.specs.Checks.{automaton_fault}
 use Rattle.chart_tree.specs.Outlines.{drawn}
 use Rattle.chart_tree.proofs.Drawn.{automata_are}

@@ -1,5 +1,5 @@
 -- `automaton::has_top`: what the first automaton's parent says. Assumes nothing.
-use Rattle.std.proofs.Common.{◌≡◌, ℕ, ◌<◌, true, false, length, Some, None, Decides, sym, refl, ap, ◌∙◌, inl, inr, arith}
+use Rattle.std.proofs.Common.{◌≡◌, ◌<◌, false, length, None, Decides, sym, refl, ap, ◌∙◌, inl, inr, arith}
 use Rattle.std.proofs.lemmas.Bool.{both_ways, eqb-true, eqb-false}
 use Rattle.hierarchy.specs.Hierarchies.{Hierarchy}
 use Rattle.hierarchy.specs.Meant.{parent_state}

@@ -1,5 +1,5 @@
 -- `automaton::is_placed`: the first by its parent, a later one by where it stands. Assumes nothing.
-use Rattle.std.proofs.Common.{◌≡◌, ℕ, ◌<◌, false, Decides, sym, refl, ap, ◌∙◌, subst, inl, inr, arith}
+use Rattle.std.proofs.Common.{◌≡◌, ℕ, ◌<◌, false, Decides, sym, refl, ap, subst, inl, inr, arith}
 use Rattle.std.proofs.lemmas.Bool.{both_ways}
 use Rattle.std.proofs.lemmas.Bool.Decides.{Decides-like, Decides-ltb}
 use Rattle.hierarchy.specs.Hierarchies.{Hierarchy, Under}

@@ -1,5 +1,5 @@
 -- `automaton::starts_inside`: by the automaton of its initial state. Assumes nothing.
-use Rattle.std.proofs.Common.{◌≡◌, false, length, Decides, sym, refl, ap, ◌∙◌, subst, arith}
+use Rattle.std.proofs.Common.{false, length, sym, refl, ap, ◌∙◌, arith}
 use Rattle.std.proofs.lemmas.Bool.{both_ways}
 use Rattle.std.proofs.lemmas.Bool.Decides.{Decides-like, Decides-eqb}
 use Rattle.chart.specs.declared.drawing.Parent.TheVariants.{Top}

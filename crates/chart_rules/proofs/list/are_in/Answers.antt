@@ -1,5 +1,5 @@
 -- `list::are_in`: one state after the other. Assumes nothing.
-use Rattle.std.proofs.Common.{◌≡◌, true, false, sym, refl, ap, ◌∙◌, inl, inr}
+use Rattle.std.proofs.Common.{false, sym, refl, ap, ◌∙◌, inl, inr}
 use Rattle.std.proofs.lemmas.Bool.{both_ways}
 use Rattle.set64.specs.Sets.{has}
 use Rattle.chart_rules.proofs.Lists.{these_more, these_all, these_at}

@@ -1,5 +1,5 @@
 -- `list::are_orthogonal`: of the others, none is left that is not orthogonal to the state at hand. Assumes nothing.
-use Rattle.std.proofs.Common.{◌≡◌, ℕ, ◌<◌, true, false, not, ◌&&◌, eqb, ◌≢◌, List, Decides, sym, refl, subst, inl, inr, arith}
+use Rattle.std.proofs.Common.{◌≡◌, ℕ, ◌<◌, false, not, ◌&&◌, eqb, ◌≢◌, List, Decides, sym, refl, subst, inl, inr}
 use Rattle.std.proofs.lemmas.Bool.{both_ways, cases_Bool}
 use Rattle.std.proofs.lemmas.Bool.Decides.{Decides-at, Decides-and, Decides-not, Decides-eqb, not_from_Decides}
 use Rattle.set64.specs.Sets.{has}

@@ -1,5 +1,4 @@
 -- `list::are_orthogonal_in`: one test after the other. Assumes nothing.
-use Rattle.std.proofs.Common.{false, refl}
 use Rattle.std.proofs.lemmas.Bool.{both_ways}
 use Rattle.chart_rules.proofs.list.are_orthogonal_in.Goals as goal
 

@@ -1,5 +1,5 @@
 -- `list::beside`: by the state's automaton; to a state in none nothing is orthogonal. Assumes nothing.
-use Rattle.std.proofs.Common.{◌≡◌, ◌<◌, Decides, sym, ap, ◌∙◌, subst, arith}
+use Rattle.std.proofs.Common.{sym, ap, ◌∙◌, arith}
 use Rattle.std.proofs.lemmas.Bool.{both_ways}
 use Rattle.std.proofs.lemmas.Bool.Decides.{Decides-at}
 use Rattle.hierarchy.proofs.Tree.{orthogonal_step}

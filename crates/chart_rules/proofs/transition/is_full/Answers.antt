@@ -1,5 +1,5 @@
 -- `transition::is_full`: the list within the basic states below the target, and none missing. Assumes nothing.
-use Rattle.std.proofs.Common.{◌≡◌, ℕ, ◌<◌, true, Decides, refl}
+use Rattle.std.proofs.Common.{◌≡◌, ℕ, ◌<◌, true}
 use Rattle.std.proofs.lemmas.Bool.{both_ways}
 use Rattle.set64.specs.Sets.{has}
 use Rattle.chart_tree.specs.Outlines.{drawn}

@@ -1,5 +1,4 @@
 -- `transition::is_well_formed`: the list within what is below the source. Assumes nothing.
-use Rattle.std.proofs.Common.{Decides}
 use Rattle.std.proofs.lemmas.Bool.Decides.{Decides-like}
 use Rattle.chart_tree.specs.Outlines.{drawn}
 use Rattle.chart_tree.proofs.Drawn.{proper}

@@ -1,5 +1,5 @@
 -- `transition::transitions_fault`: one transition after the other. Assumes nothing.
-use Rattle.std.proofs.Common.{◌≡◌, ◌<◌, ◌≤◌, length, sym, ap, ◌∙◌, arith}
+use Rattle.std.proofs.Common.{length, sym, ap, ◌∙◌, arith}
 use Rattle.hierarchy.specs.Checks.{transition_fault}
 use Rattle.chart_tree.specs.Outlines.{drawn}
 use Rattle.chart_rules.proofs.Loops.{found, passed_more, none_left}

@@ -26,18 +26,18 @@ returns-in-Top c =
     let a = c.args.automaton.0 in
     nowhere (drawn d) a (parent_read d a _ _ c.as_slice-automata.ensures.value c.if-index-automata.false ∙ ap parent_state c.in-Top.is)
 
-pub returns-in_err-home_of : goal.returns-in_err-home_of
-returns-in_err-home_of c =
+pub returns-in_err-home_of-in-State : goal.returns-in_err-home_of-in-State
+returns-in_err-home_of-in-State c =
     let d = c.args.drawing.now in
     let a = c.args.automaton.0 in
     let s = c.in-State.state.0 in
     let u = parent_read d a _ _ c.as_slice-automata.ensures.value c.if-index-automata.false ∙ ap parent_state c.in-State.is in
-    subst (λ o. StandGives (drawn d) a o) (sym c.from_residual.ensures) (outside (drawn d) a s u (none_out (drawn d) s c.in_err-home_of.ensures))
+    subst (λ o. StandGives (drawn d) a o) (sym c.from_residual.ensures) (outside (drawn d) a s u (none_out (drawn d) s c.in_err-home_of-in-State.ensures))
 
-pub returns-in_ok-home_of : goal.returns-in_ok-home_of
-returns-in_ok-home_of c =
+pub returns-in_ok-home_of-in-State : goal.returns-in_ok-home_of-in-State
+returns-in_ok-home_of-in-State c =
     let d = c.args.drawing.now in
     let a = c.args.automaton.0 in
     let u = parent_read d a _ _ c.as_slice-automata.ensures.value c.if-index-automata.false ∙ ap parent_state c.in-State.is in
-    let r = some_out (drawn d) c.in-State.state.0 c.in_ok-home_of.field-0 c.in_ok-home_of.ensures in
+    let r = some_out (drawn d) c.in-State.state.0 c.in_ok-home_of-in-State.field-0 c.in_ok-home_of-in-State.ensures in
     record { under = u; home = r.0; known = omega (arith, r.0, r.1) }

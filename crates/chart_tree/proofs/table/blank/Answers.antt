@@ -1,5 +1,5 @@
 -- `table::blank`: every place has the empty set. Assumes nothing.
-use lib.ListN.{length-replicate}
+use Rattle.std.proofs.lemmas.List.{length-replicate}
 use Rattle.chart_tree.proofs.Places.{blank_at}
 use Rattle.chart_tree.proofs.table.blank.Goals as goal
 

@@ -1,5 +1,5 @@
 -- `tree::sides`: one automaton after the other. Assumes nothing.
-use Rattle.std.proofs.Common.{◌≡◌, sym, subst, arith}
+use Rattle.std.proofs.Common.{◌≡◌, subst, arith}
 use Rattle.chart_tree.specs.Outlines.{drawn}
 use Rattle.chart_tree.specs.Regions.{Sides}
 use Rattle.chart_tree.proofs.Drawn.{automata_are}

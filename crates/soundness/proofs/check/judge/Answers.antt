@@ -37,7 +37,7 @@ invariant_of-result c =
     let d = c.args.drawing in
     let kept = after_automata d c.new-tree.result None c.in_default.ensures c.new-tree.ensures c.in_default-transitions_fault.ensures in
     let sound = (sound_right (drawn d) (proper d)).0 (sym kept) in
-    (∣ sound ∣₁, (∣ c.new-tree.ensures sound.rooted ∣₁, tt))
+    record { sound = ∣ sound ∣₁; outlined = ∣ c.new-tree.ensures sound.rooted ∣₁ }
 
 pub returns : goal.returns
 returns c =

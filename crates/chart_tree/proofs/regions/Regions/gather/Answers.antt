@@ -1,6 +1,5 @@
 -- `Regions::gather`: one automaton more is gathered, or it stands under no state. Assumes nothing.
-use Rattle.std.proofs.Common.{◌<◌, arith}
-use Rattle.hierarchy.proofs.Tree.{under_lt}
+use Rattle.std.proofs.Common.{arith}
 use Rattle.chart_tree.specs.Outlines.{drawn}
 use Rattle.chart_tree.proofs.Drawn.{proper}
 use Rattle.chart_tree.proofs.Stages.{stage_skip, stage_more}

@@ -1,5 +1,5 @@
 -- `Regions::new`: before the first automaton is gathered. Assumes nothing.
-use Rattle.std.proofs.Common.{◌≡◌, sym, subst, arith}
+use Rattle.std.proofs.Common.{◌≡◌, subst, arith}
 use Rattle.chart_tree.specs.Outlines.{drawn}
 use Rattle.chart_tree.specs.Regions.{Stage}
 use Rattle.chart_tree.proofs.Drawn.{proper, automata_are}

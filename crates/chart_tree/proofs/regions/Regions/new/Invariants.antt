@@ -1,5 +1,4 @@
 -- `Regions::new`: the automata from `left` on are gathered. Assumes nothing.
-use Rattle.std.proofs.Common.{◌≤◌}
 use Rattle.hierarchy.specs.Rules.{Rooted}
 use Rattle.chart_tree.specs.Outlines.{drawn}
 use Rattle.chart_tree.specs.Regions.{Stage}

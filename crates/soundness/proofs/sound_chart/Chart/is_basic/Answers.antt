@@ -2,7 +2,7 @@
 use Rattle.std.proofs.Common.{◌∙◌}
 use Rattle.std.proofs.lemmas.Bool.Decides.{Decides-at, Decides-like, Decides-not}
 use Rattle.soundness.proofs.Held.{chart_outlines}
-use Rattle.soundness.proofs.chart.Chart.is_basic.Goals as goal
+use Rattle.soundness.proofs.sound_chart.Chart.is_basic.Goals as goal
 
 pub returns : goal.returns
 returns c =

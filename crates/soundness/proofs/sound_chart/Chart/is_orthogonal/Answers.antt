@@ -8,7 +8,7 @@ use Rattle.chart_tree.specs.Trees.{tree_beside}
 use Rattle.chart_tree.proofs.Drawn.{proper}
 use Rattle.chart_tree.proofs.Homes.{none_out, some_out}
 use Rattle.soundness.proofs.Held.{chart_outlines, chart_sound}
-use Rattle.soundness.proofs.chart.Chart.is_orthogonal.Goals as goal
+use Rattle.soundness.proofs.sound_chart.Chart.is_orthogonal.Goals as goal
 
 pub returns-in-Some : goal.returns-in-Some
 returns-in-Some c =

@@ -7,7 +7,7 @@ use Rattle.hierarchy.specs.Meant.{hierarchy_of}
 use Rattle.hierarchy.specs.declared.fault.ChartFault.{ChartFault}
 use Rattle.chart_tree.specs.Outlines.{drawn}
 use Rattle.soundness.specs.Charts.{unless_broken, checked, none_plan}
-use Rattle.soundness.proofs.chart.Chart.none.Goals as goal
+use Rattle.soundness.proofs.sound_chart.Chart.none.Goals as goal
 
 none_sound : (d : Drawing) → plan_of d ≡ none_plan → first_fault (drawn d) ≡ None
 unfolding drawn

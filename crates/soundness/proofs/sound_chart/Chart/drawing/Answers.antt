@@ -3,7 +3,7 @@ use Rattle.std.proofs.Common.{refl}
 use Rattle.hierarchy.proofs.Tree.{tree_law}
 use Rattle.chart_tree.specs.Outlines.{drawn}
 use Rattle.soundness.proofs.Held.{chart_sound}
-use Rattle.soundness.proofs.chart.Chart.drawing.Goals as goal
+use Rattle.soundness.proofs.sound_chart.Chart.drawing.Goals as goal
 
 pub returns : goal.returns
 returns c =

@@ -1,7 +1,7 @@
 -- `Chart::source_of`: what the transition in its place says. Assumes nothing.
 use Rattle.std.proofs.Common.{length, ap, arith}
 use Rattle.chart_rules.proofs.Said.{transitions_are, says}
-use Rattle.soundness.proofs.chart.Chart.source_of.Goals as goal
+use Rattle.soundness.proofs.sound_chart.Chart.source_of.Goals as goal
 
 pub returns-then-index-transitions : goal.returns-then-index-transitions
 returns-then-index-transitions c =
