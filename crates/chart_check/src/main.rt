@@ -1,7 +1,8 @@
 // Checks the chart text chart.txt of the current folder, and prints what the chart holds or why it is refused.
 #![tactic(auto)]
 
-use self::report::{Report, report_on};
+use self::report::report_on;
+use anyhow::Context;
 use std::fs::File;
 use std::io;
 use std::io::Read;
@@ -24,15 +25,8 @@ fn load(rt: &HostRuntime) -> io::Result<Vec<u8>> {
 }
 
 fn main(rt: HostRuntime) -> anyhow::Result<()> {
-    match load(&rt) {
-        Ok(text) => {
-            let report = report_on(rt.alloc(), text.as_slice())?;
-            println!(rt; "{report}")?;
-            Ok(())
-        }
-        Err(error) => {
-            eprintln!(rt; "{PATH} cannot be read: {error}")?;
-            Err(error.into())
-        }
-    }
+    let text = load(&rt).context("chart.txt cannot be read")?;
+    let report = report_on(rt.alloc(), text.as_slice())?;
+    println!(rt; "{report}")?;
+    Ok(())
 }
