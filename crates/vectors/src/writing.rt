@@ -24,7 +24,10 @@ fn a_buffer_that_is_too_short_is_refused_and_left_as_it_was(rt: HostRuntime) -> 
     let drawing = read(WORKED)?;
     for room in 0..289 {
         let (page, answer) = written(&drawing, room);
-        assert!(rt; answer == Err(17) && page == BLANK, "{}", room);
+        assert!(rt;
+            answer == Err(17) && page == BLANK,
+            "with room for {room} bytes"
+        );
     }
     Ok(())
 }
@@ -38,8 +41,7 @@ fn a_buffer_that_is_long_enough_gets_the_text_and_keeps_its_other_bytes(
         let (page, answer) = written(&drawing, room);
         assert!(rt;
             answer == Ok(289) && page.starts_with(WORKED) && page[289..] == BLANK[289..],
-            "{}",
-            room
+            "with room for {room} bytes"
         );
     }
     Ok(())
