@@ -25,7 +25,7 @@ fn load(rt: &HostRuntime) -> io::Result<Vec<u8>> {
 }
 
 fn main(rt: HostRuntime) -> anyhow::Result<()> {
-    let text = load(&rt).context("chart.txt cannot be read")?;
+    let text = load(&rt).context(format_args!("{PATH} cannot be read"))?;
     let report = report_on(rt.alloc(), text.as_slice())?;
     println!(rt; "{report}")?;
     Ok(())

@@ -2,7 +2,7 @@
 --     placed_at n r         r, its fault with the line n beside
 --     Gives s x r           the code's answer r is the reader's answer x, its value by what it says, s
 --     more_rows ..          rows read behind those that are there
---     RowsGive x es r      the list of rows has become es, which is x's, or x is the fault
+--     RowsGive x es r       the list of rows has become es, which is x's, or x is the fault
 --     rows_in d             the rows that a drawing has
 --     Blank d               a drawing without rows
 --     Fitting c n           there is room for so many rows

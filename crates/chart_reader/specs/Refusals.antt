@@ -4,10 +4,10 @@
 --     skip_lines k s        what follows the first k lines of s
 --     stated k n s          the number that line n says, which begins s and has the key k; 0 where it says none
 --     counts_in t, keys_in t    the counts that a text states on its lines 2 to 4, and the keys that are due by its counts
---     BadValue c k v f     the value v of a line with the key k has the fault f, where c are the counts
---     WrongLine c k n s f  line n, which begins s and has to have the key k, has the fault f
---     RightLines c ks n s  the lines from n on, as many as the keys ks, have no fault
---     FirstWrong c ks s f  f is the fault of the first line with a fault, where ks are the keys that are due in s
+--     BadValue c k v f      the value v of a line with the key k has the fault f, where c are the counts
+--     WrongLine c k n s f   line n, which begins s and has to have the key k, has the fault f
+--     RightLines c ks n s   the lines from n on, as many as the keys ks, have no fault
+--     FirstWrong c ks s f   f is the fault of the first line with a fault, where ks are the keys that are due in s
 --     Refusals              each refusal comes exactly when the format says
 use Rattle.std.specs.Prelude.{◌≡◌, ℕ, zero, suc, ◌+◌, ◌<◌, ◌≤◌, List, [], ◌∷◌, ◌++◌, length, Some, None, Ok, Err, Option, Result}
 use Rattle.format.specs.Bytes.{cut_at, number_of}

@@ -7,8 +7,8 @@
 --     read_through t     all lines that are due, and then nothing may be left
 --     verdict t          what is made of a text: it has at most 16,384 bytes, and is read through
 --     Exactly            a text is accepted with a plan just if it is the spelling of that plan, which is within the limits
---     GivesBack         the spelling of what was accepted is the text
---     OneText           no two texts are accepted with one plan
+--     GivesBack          the spelling of what was accepted is the text
+--     OneText            no two texts are accepted with one plan
 use Rattle.std.specs.Prelude.{◌≡◌, ℕ, ◌+◌, ◌*◌, ◌≤◌, cond, List, length, Ok, Err, Result, nat_le}
 use Rattle.format.specs.Elements.{and_then, single_of, list_of, Kind}
 use Rattle.format.specs.Readers.{Reader, field, both, times, named, ended}

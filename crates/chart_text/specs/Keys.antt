@@ -1,7 +1,7 @@
 -- The keys of a chart text, as they are written, and what a line of one borrows. Assumes nothing.
 --     key_text k         the key and the sign behind it
 --     due_key, due_value the key of a read line, and its value
---     DueGives k n x r  r is line n with the key k, its value and the rest of the text those of x, or x's fault
+--     DueGives k n x r   r is line n with the key k, its value and the rest of the text those of x, or x's fault
 use Rattle.std.specs.Prelude.{◌≡◌, ℕ, List, Ok, Err, codes, Result}
 use Rattle.format.specs.declared.fault.LineFault.{LineFault}
 use Rattle.chart_text.specs.declared.line.Front.{Front}

@@ -1,6 +1,6 @@
 -- What the code's answers say, against the values of the definitions. Assumes nothing.
---     CutGives x r      r is two parts of a text, which are those of x
---     LineGives x r     r is a line's value and the rest of the text, which are those of x, or x's fault
+--     CutGives x r       r is two parts of a text, which are those of x
+--     LineGives x r      r is a line's value and the rest of the text, which are those of x, or x's fault
 --     GrownGives x es r the list has become es, which is x's, or x is the fault
 use Rattle.std.specs.Prelude.{◌≡◌, ℕ, List, Some, None, Ok, Err, Option, Result}
 use Rattle.format.specs.declared.bytes.Parts.{Parts}

@@ -1,10 +1,10 @@
 -- What is wrong with a value and with a line, in the order in which it is tried: one case to a rule. Assumes nothing.
---     SingleWrong k l v f    the one element v has the fault f: its shape, then its limits
+--     SingleWrong k l v f     the one element v has the fault f: its shape, then its limits
 --     Formed k m ps es        the pieces ps are the elements es: not too many, each of its shape and behind the one before
 --     Misplaced k m es p      the piece p cannot come behind the elements es
---     ListWrong k m l v f    the list v has the fault f: the first element out of form, or, where there is none, the
+--     ListWrong k m l v f     the list v has the fault f: the first element out of form, or, where there is none, the
 --                             first outside its limits
---     LineWrong k b n s f    line n, which begins s, has the fault f, where k is its key and b says what a value's faults are
+--     LineWrong k b n s f     line n, which begins s, has the fault f, where k is its key and b says what a value's faults are
 use Rattle.std.specs.Prelude.{◌≡◌, ℕ, ◌<◌, ◌≤◌, true, false, List, ◌∷◌, ◌++◌, map, length, Some, None, ◌≢◌}
 use Rattle.std.specs.List.{AllByRecursion}
 use Rattle.fixed.specs.Items.{last_of}

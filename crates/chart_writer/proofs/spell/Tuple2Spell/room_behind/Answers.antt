@@ -1,4 +1,4 @@
--- `Pair::room_behind`: the second has the room that the first leaves. Assumes nothing.
+-- the pair's `room_behind`: the second has the room that the first leaves. Assumes nothing.
 use Rattle.std.proofs.Common.{◌∙◌}
 use Rattle.chart_writer.proofs.Room.{left_next, left_stop}
 use Rattle.chart_writer.proofs.spell.Tuple2Spell.room_behind.Goals as goal

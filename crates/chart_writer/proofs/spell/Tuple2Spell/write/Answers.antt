@@ -1,4 +1,4 @@
--- `Pair::write`: the second is lent what the first leaves. Assumes nothing.
+-- the pair's `write`: the second is lent what the first leaves. Assumes nothing.
 use Rattle.std.proofs.Common.{arith, length-append}
 use Rattle.chart_writer.proofs.Rest.{lent, put_next}
 use Rattle.chart_writer.proofs.spell.Tuple2Spell.write.Goals as goal
