@@ -1,7 +1,7 @@
 -- The first fault of several, and the fault of one rule after another. Assumes nothing.
-use Rattle.std.proofs.Common.{◌≡◌, ℕ, zero, suc, ◌<◌, Bool, true, false, cond, ◌⊎◌, ◌↔◌, Some, None, Decides, Option, sym, refl, ap, subst, inl, inr, arith}
+use Rattle.std.proofs.Common.{◌≡◌, ℕ, zero, suc, ◌<◌, Bool, true, false, cond, ◌⊎◌, ◌↔◌, Some, None, Ok, Err, Decides, Option, sym, refl, ap, subst, inl, inr, arith}
 use Rattle.std.proofs.lemmas.Bool.{cases_eq, both_ways}
-use Rattle.hierarchy.specs.Checks.{or_else, first_of}
+use Rattle.hierarchy.specs.Checks.{or_else, first_of, unless_broken}
 use Rattle.hierarchy.proofs.Tree.{not_some}
 
 module _ {F : Type 0} where
@@ -61,3 +61,12 @@ module _ {F : Type 0} where
 
   pub none_some : (f : F) {C : Type 0} → None ≡ Some f → C
   none_some f e = never f (sym e)
+
+  -- what an answer says of the fault that it tells of
+  pub kept : {A : Type 0} (a b : A) (o : Option F) → Ok b ≡ unless_broken a o → o ≡ None
+  kept a b None e = refl
+  kept a b (Some f) e = cc
+
+  pub broken : {A : Type 0} (a : A) (f : F) (o : Option F) → Err f ≡ unless_broken a o → o ≡ Some f
+  broken a f None e = cc
+  broken a f (Some g) e = cc

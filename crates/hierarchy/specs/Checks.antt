@@ -5,8 +5,9 @@
 --     below h v u, ..       what the relations of these names say, by search
 --     first_of n f          the first of f 0, f 1, .. that is some fault
 --     first_fault h         the first rule that is broken
+--     unless_broken a o     the value a, where there is no fault; else the fault
 --     CheckLaw              no fault is found exactly where the hierarchy is sound, and a fault exactly where it is the first broken rule
-use Rattle.std.specs.Prelude.{◌≡◌, ℕ, zero, suc, max, Bool, true, false, cond, not, ◌&&◌, ◌||◌, ltb, ◌↔◌, List, [], ◌∷◌, Some, None, Option, ◌==◌, nat_eq, nat_lt}
+use Rattle.std.specs.Prelude.{◌≡◌, ℕ, zero, suc, max, Bool, true, false, cond, not, ◌&&◌, ◌||◌, ltb, ◌↔◌, List, [], ◌∷◌, Some, None, Ok, Err, Option, Result, ◌==◌, nat_eq, nat_lt}
 use Rattle.chart.specs.Kinds.{automaton_no}
 use Rattle.chart.specs.declared.id.StateId.{StateId}
 use Rattle.hierarchy.specs.Hierarchies.{Set, these, Hierarchy, Proper}
@@ -99,6 +100,10 @@ automata_fault_lem h = first_of (max 1 h.automata) (automaton_fault h)
 
 abbrev pub first_fault : Hierarchy → Option ChartFault
 first_fault h = or_else (automata_fault_lem h) (first_of h.transitions (transition_fault h))
+
+abbrev pub unless_broken : {A F : Type 0} → A → Option F → Result A F
+unless_broken a None = Ok a
+unless_broken a (Some f) = Err f
 
 pub record Checked (h : Hierarchy) : Type 0 where
   pub sound : (first_fault h ≡ None) ↔ Sound h

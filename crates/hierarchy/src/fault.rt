@@ -45,11 +45,12 @@ impl ChartFault {
         ensures { result ≡ named_by self }
     {
         match self {
-            ChartFault::Misplaced { automaton } => Part::Automaton(automaton),
-            ChartFault::StrayInitial { automaton } => Part::Automaton(automaton),
-            ChartFault::SplitEnds { transition } => Part::Transition(transition),
-            ChartFault::IllFormed { transition } => Part::Transition(transition),
-            ChartFault::NotFull { transition } => Part::Transition(transition),
+            ChartFault::Misplaced { automaton } | ChartFault::StrayInitial { automaton } => {
+                Part::Automaton(automaton)
+            }
+            ChartFault::SplitEnds { transition }
+            | ChartFault::IllFormed { transition }
+            | ChartFault::NotFull { transition } => Part::Transition(transition),
         }
     }
 }
