@@ -1,4 +1,4 @@
 pub mod Drawn
+pub mod Held
 pub mod Homes
-pub mod Places
 pub mod Stages

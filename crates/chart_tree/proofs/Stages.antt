@@ -1,5 +1,5 @@
 -- The tables, automaton by automaton. Assumes nothing.
-use Rattle.std.proofs.Common.{◌≡◌, ℕ, ◌+◌, ◌<◌, ◌≤◌, false, not, ◌&&◌, ◌||◌, eqb, ltb, ◌⊎◌, List, length, Decides, sym, ap, ◌∙◌, subst, inl, inr, arith}
+use Rattle.std.proofs.Common.{◌≡◌, ℕ, ◌+◌, ◌<◌, ◌≤◌, false, not, ◌&&◌, ◌||◌, eqb, ltb, ◌⊎◌, Decides, sym, ap, ◌∙◌, subst, inl, inr, arith}
 use Rattle.std.proofs.lemmas.Bool.{cases_eq, both_ways, or_from, and_left, and_right, ne_eqb}
 use Rattle.std.proofs.lemmas.Bool.Decides.{Decides-at, Decides-like, Decides-and, Decides-or, Decides-not, Decides-eqb, Decides-ltb}
 use Rattle.set64.specs.Sets.{has}
@@ -11,16 +11,17 @@ use Rattle.chart_tree.specs.Outlines.{Stands}
 use Rattle.chart_tree.specs.Regions.{Members, Stage, Sides}
 use Rattle.chart_tree.specs.Tables.{set_at}
 use Rattle.chart_tree.specs.declared.outline.Stand.{Stand}
+use Rattle.chart_tree.specs.declared.table.Table.{Table}
 use Rattle.chart_tree.specs.declared.regions.Regions.{Regions}
 
 -- the members of a table after more have joined the set in one of its places
-abbrev pub Joined : List Set64 → ℕ → Set64 → List Set64 → Type 0
-Joined old place more new = (i v : ℕ) → set_at new i v ≡ (set_at old i v || ((ltb place (length old) && eqb i place) && has more v))
+abbrev pub Joined : {N : ℕ} → Table N → ℕ → Set64 → Table N → Type 0
+Joined {N} old place more new = (i v : ℕ) → set_at new i v ≡ (set_at old i v || ((ltb place N && eqb i place) && has more v))
 
-pub decides_joined : {P Q : Type 0} (old new : List Set64) (place i v : ℕ) (more : Set64) → Joined old place more new → Decides (set_at old i v) P → Decides (has more v) Q
-    → Decides (set_at new i v) (P ⊎ (((place < length old) × (i ≡ place)) × Q))
-decides_joined old new place i v more j p q =
-    Decides-at _ _ (j i v) (Decides-or _ _ p (Decides-and _ _ (Decides-and _ _ (Decides-ltb place (length old)) (Decides-eqb i place)) q))
+pub decides_joined : {N : ℕ} {P Q : Type 0} (old new : Table N) (place i v : ℕ) (more : Set64) → Joined old place more new → Decides (set_at old i v) P → Decides (has more v) Q
+    → Decides (set_at new i v) (P ⊎ (((place < N) × (i ≡ place)) × Q))
+decides_joined {N} old new place i v more j p q =
+    Decides-at _ _ (j i v) (Decides-or _ _ p (Decides-and _ _ (Decides-and _ _ (Decides-ltb place N) (Decides-eqb i place)) q))
 
 -- a set of one number
 pub decides_one : (i : ℕ) (none one : Set64) → i < 64 → ((m : ℕ) → has none m ≡ false) → ((m : ℕ) → has one m ≡ (has none m || (ltb i 64 && eqb m i))) → (v : ℕ) → Decides (has one v) (v ≡ i)
@@ -30,15 +31,13 @@ decides_one i none one lt empty is v =
 
 module _ (h : Hierarchy) (proper : Proper h) where
   -- before any automaton is gathered
-  pub stage_start : (r : Regions) → Members h r.within → h.automata ≤ 24 → length r.below ≡ 64 → ((u v : ℕ) → set_at r.below u v ≡ false) → ((u : ℕ) → has r.composite u ≡ false)
+  pub stage_start : (r : Regions) → Members h r.within → h.automata ≤ 24 → ((u v : ℕ) → set_at r.below u v ≡ false) → ((u : ℕ) → has r.composite u ≡ false)
       → Stage h h.automata r
-  stage_start r m few long none plain =
+  stage_start r m few none plain =
       let over : (b s : ℕ) → h.automata ≤ b → Under h b s → ⊥ = λ b s k u. omega (arith, proper.parent b s u) in
       record {
         few_automata = few;
         few_states = m.few;
-        automaton_places = m.places;
-        state_places = long;
         within = λ a v lt. Decides-like _ (λ x. inl x.1) (λ s. elim s [ inl e ↦ (proper.home v (omega arith), e) | inr x ↦ absurd (over x.0 x.1 x.2 x.3) ]) (m.each a v (omega arith));
         below = λ u v. ((λ t. absurd (both_ways _ (none u v) t)), (λ x. absurd (over x.0 u x.1 x.2)));
         composite = λ u. ((λ t. absurd (both_ways _ (plain u) t)), (λ x. absurd (over x.0 u x.1 x.2)));
@@ -61,8 +60,6 @@ module _ (h : Hierarchy) (proper : Proper h) where
         record {
           few_automata = stage.few_automata;
           few_states = stage.few_states;
-          automaton_places = stage.automaton_places;
-          state_places = stage.state_places;
           within = λ a v lt. Decides-like _
               (λ s. elim s [ inl e ↦ inl e | inr x ↦ inr (x.0, x.1, omega (arith, x.2), x.3, x.4, x.5) ])
               (λ s. elim s [ inl e ↦ inl e | inr x ↦ inr (x.0, x.1, on x.0 x.1 x.2 x.3, x.3, x.4, x.5) ]) (stage.within a v lt);
@@ -84,18 +81,15 @@ module _ (h : Hierarchy) (proper : Proper h) where
       state_lt : s.state.0 < h.states
       state_lt = proper.home s.state.0 (omega (arith, stands.home, stands.known))
 
-      pub stage_more : (inner composite : Set64) (within below : List Set64) → ((v : ℕ) → has inner v ≡ set_at r.within k v)
+      pub stage_more : (inner composite : Set64) (within : Table 24) (below : Table 64) → ((v : ℕ) → has inner v ≡ set_at r.within k v)
           → Joined r.within s.home.0 inner within → Joined r.below s.state.0 inner below
           → ((m : ℕ) → has composite m ≡ (has r.composite m || (ltb s.state.0 64 && eqb m s.state.0)))
-          → length within ≡ length r.within → length below ≡ length r.below
           → Stage h k (record { within = within; below = below; composite = composite })
-      stage_more inner composite within below same in-home in-state put long-within long-below =
+      stage_more inner composite within below same in-home in-state put =
           let all : (v : ℕ) → Decides (has inner v) (Lies h v k) = λ v. Decides-at _ _ (same v) (gathered r stage inner_lt v) in
           record {
             few_automata = stage.few_automata;
             few_states = stage.few_states;
-            automaton_places = long-within ∙ stage.automaton_places;
-            state_places = long-below ∙ stage.state_places;
             within = λ a v lt. Decides-like _
                 (λ y. elim y [
                   | inl (inl e) ↦ inl e
@@ -106,7 +100,7 @@ module _ (h : Hierarchy) (proper : Proper h) where
                   | inl e ↦ inl (inl e)
                   | inr x ↦ elim (cases_eq x.0 k) [
                     | inl e ↦ let at = sym stands.home ∙ ap h.home (sym (under_s x.0 x.1 e x.3)) ∙ x.4 in
-                        inr ((omega (arith, stands.known, stage.few_automata, stage.automaton_places), sym at), subst (λ z. Lies h v z) e x.5)
+                        inr ((omega (arith, stands.known, stage.few_automata), sym at), subst (λ z. Lies h v z) e x.5)
                     | inr ne ↦ inl (inr (x.0, x.1, later x.0 x.2 ne, x.3, x.4, x.5))
                   ]
                 ])
@@ -117,7 +111,7 @@ module _ (h : Hierarchy) (proper : Proper h) where
                   | inr x ↦ (k, omega arith, subst (λ z. Under h k z) (sym x.0.1) stands.under, x.1)
                 ])
                 (λ x. elim (cases_eq x.0 k) [
-                  | inl e ↦ inr ((omega (arith, state_lt, stage.few_states, stage.state_places), under_s x.0 u e x.2), subst (λ z. Lies h v z) e x.3)
+                  | inl e ↦ inr ((omega (arith, state_lt, stage.few_states), under_s x.0 u e x.2), subst (λ z. Lies h v z) e x.3)
                   | inr ne ↦ inl (x.0, later x.0 x.1 ne, x.2, x.3)
                 ])
                 (decides_joined r.below below s.state.0 u v inner in-state (stage.below u v) (all v));
@@ -150,7 +144,7 @@ module _ (h : Hierarchy) (proper : Proper h) where
     no_sides a v w top e o = let x = (orthogonal_step h rooted v w).0 o in top x.0 (subst (λ z. Under h z x.0) e x.1)
 
     -- of an automaton under the state s: what is orthogonal to s, and what lies below s elsewhere
-    pub sides_more : (a : ℕ) (s : Stand) → Stands h a s → (beside : List Set64) → Sides h a beside → (old under own others all : Set64)
+    pub sides_more : (a : ℕ) (s : Stand) → Stands h a s → (beside : Table 24) → Sides h a beside → (old under own others all : Set64)
         → ((v : ℕ) → has old v ≡ set_at beside s.home.0 v) → ((v : ℕ) → has under v ≡ set_at r.below s.state.0 v) → ((v : ℕ) → has own v ≡ set_at r.within a v)
         → ((v : ℕ) → has others v ≡ (has under v && not (has own v))) → ((v : ℕ) → has all v ≡ (has old v || has others v))
         → (v w : ℕ) → h.home v ≡ a → Decides (has all w) (Orthogonal h v w)
@@ -171,19 +165,18 @@ module _ (h : Hierarchy) (proper : Proper h) where
         one_parent p x y = cc
 
 -- one automaton's sides more
-pub sides_next : (h : Hierarchy) (a : ℕ) (old new : List Set64) (more : Set64) → a < 24 → Sides h a old → Joined old a more new → length new ≡ length old
+pub sides_next : (h : Hierarchy) (a : ℕ) (old new : Table 24) (more : Set64) → a < 24 → Sides h a old → Joined old a more new
     → ((v w : ℕ) → h.home v ≡ a → Decides (has more w) (Orthogonal h v w)) → Sides h (a + 1) new
-sides_next h a old new more lt sides j long here =
+sides_next h a old new more lt sides j here =
     record {
-      places = long ∙ sides.places;
       done = λ x v w le e. elim (cases_eq x a) [
-        | inl same ↦ Decides-like _ (λ y. elim y [ inl t ↦ absurd (both_ways _ (sides.blank x w (omega arith)) t) | inr z ↦ z.1 ]) (λ o. inr ((omega (arith, sides.places), same), o))
+        | inl same ↦ Decides-like _ (λ y. elim y [ inl t ↦ absurd (both_ways _ (sides.blank x w (omega arith)) t) | inr z ↦ z.1 ]) (λ o. inr ((lt, same), o))
             (decides_joined old new a x w more j ((λ t. t), (λ t. t)) (here v w (e ∙ same)))
         | inr ne ↦ Decides-like _ (λ y. elim y [ inl o ↦ o | inr z ↦ absurd (ne z.0.1) ]) (λ o. inl o) (decides_joined old new a x w more j (sides.done x v w (omega arith) e) ((λ t. t), (λ t. t)))
       ];
       blank = λ x w le. j x w ∙ not_there x w le;
     }
   where
-    not_there : (x w : ℕ) → a + 1 ≤ x → (set_at old x w || ((ltb a (length old) && eqb x a) && has more w)) ≡ false
+    not_there : (x w : ℕ) → a + 1 ≤ x → (set_at old x w || ((ltb a 24 && eqb x a) && has more w)) ≡ false
     not_there x w le =
-        or_from _ _ (sides.blank x w (omega arith)) (and_left _ _ (and_right (ltb a (length old)) _ (ne_eqb x a (λ (e : x ≡ a). omega arith))))
+        or_from _ _ (sides.blank x w (omega arith)) (and_left _ _ (and_right (ltb a 24) _ (ne_eqb x a (λ (e : x ≡ a). omega arith))))

@@ -5,7 +5,7 @@ ghost use Rattle.chart_tree.specs.Outlines.{drawn};
 ghost use Rattle.chart_tree.specs.Regions.{Members, Stage};
 
 use super::outline::stand_of;
-use super::table::{at, blank, join};
+use super::table::Table;
 use chart::drawing::{Drawing, MOST_AUTOMATA, MOST_STATES};
 use chart::id::AutomatonId;
 use set64::Set64;
@@ -13,22 +13,21 @@ use set64::Set64;
 #[derive(Clone, Copy)]
 pub struct Regions {
     // the states in each automaton or below it
-    pub within: [Set64; MOST_AUTOMATA],
+    pub within: Table<MOST_AUTOMATA>,
     // the states below each state
-    pub below: [Set64; MOST_STATES],
+    pub below: Table<MOST_STATES>,
     // the states that are not basic
     pub composite: Set64,
 }
 
 // The states of each automaton.
-fn members(drawing: &Drawing) -> [Set64; MOST_AUTOMATA]
+fn members(drawing: &Drawing) -> Table<MOST_AUTOMATA>
     ensures { Members (drawn drawing.now) result }
 {
-    let mut members = blank::<MOST_AUTOMATA>();
+    let mut members = Table::blank();
     let states = drawing.states.as_slice();
-    for i in 0..drawing.states.len() {
-        let one = Set64::empty().insert(i);
-        join(&mut members, states[i as usize].automaton.0, one);
+    for (i, state) in states.iter().enumerate() {
+        members.join(state.automaton.0, Set64::empty().insert(i as u8));
     }
     members
 }
@@ -39,9 +38,9 @@ impl Regions {
         ensures { Rooted (drawn drawing.now) → Stage (drawn drawing.now) (automaton.0 + 1) self.old → Stage (drawn drawing.now) automaton.0 self.new }
     {
         if let Some(stand) = stand_of(drawing, automaton) {
-            let inner = at(&self.within, automaton.0);
-            join(&mut self.within, stand.home.0, inner);
-            join(&mut self.below, stand.state.0, inner);
+            let inner = self.within.at(automaton.0);
+            self.within.join(stand.home.0, inner);
+            self.below.join(stand.state.0, inner);
             self.composite = self.composite.insert(stand.state.0);
         }
     }
@@ -51,13 +50,11 @@ impl Regions {
     {
         let mut regions = Regions {
             within: members(drawing),
-            below: blank::<MOST_STATES>(),
+            below: Table::blank(),
             composite: Set64::empty(),
         };
-        let mut left = drawing.automata.len();
-        while left > 0 {
-            left -= 1;
-            regions.gather(drawing, AutomatonId(left));
+        for a in (0..drawing.automata.len()).rev() {
+            regions.gather(drawing, AutomatonId(a));
         }
         regions
     }

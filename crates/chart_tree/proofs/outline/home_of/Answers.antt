@@ -1,25 +1,22 @@
 -- `outline::home_of`: the state's own automaton, where the drawing has both. Assumes nothing.
-use Rattle.std.proofs.Common.{arith}
+use Rattle.std.proofs.Common.{sym, ap, ◌∙◌, arith}
+use Rattle.chart.specs.declared.drawing.State.{State}
 use Rattle.chart_tree.specs.Outlines.{drawn}
 use Rattle.chart_tree.proofs.Drawn.{automata_are, home_read, home_past}
-use Rattle.chart_tree.proofs.Homes.{none_in, some_in}
+use Rattle.chart_tree.proofs.Homes.{none_in, either_in}
 use Rattle.chart_tree.proofs.outline.home_of.Goals as goal
 
-pub returns-then-index-states : goal.returns-then-index-states
-returns-then-index-states c =
+pub returns-in_err-state : goal.returns-in_err-state
+returns-in_err-state c =
     let d = c.args.drawing.now in
     let v = c.args.state.0 in
-    none_in (drawn d) v (omega (arith, home_past d v _ c.as_slice-states.ensures.value c.if-index-states.true))
+    let past = c.in_err-state.ensures.lookup.3 in
+    c.from_residual.ensures ∙ none_in (drawn d) v (omega (arith, home_past d v _ c.as_slice.ensures.value past))
 
-pub returns-then-automaton-len : goal.returns-then-automaton-len
-returns-then-automaton-len c =
+pub returns : goal.returns
+returns c =
     let d = c.args.drawing.now in
     let v = c.args.state.0 in
-    some_in (drawn d) v _ (home_read d v _ _ c.as_slice-states.ensures.value c.if-index-states.false) (omega (arith, automata_are d))
-
-pub returns-else-automaton-len : goal.returns-else-automaton-len
-returns-else-automaton-len c =
-    let d = c.args.drawing.now in
-    let v = c.args.state.0 in
-    let here = home_read d v (record { automaton = record { 0 = 0 } }) _ c.as_slice-states.ensures.value c.if-index-states.false in
-    none_in (drawn d) v (omega (arith, automata_are d, here))
+    let found = c.in_ok-state.ensures.lookup in
+    let home = home_read d v c.in_ok-state.state.now _ c.as_slice.ensures.value found.3.0 ∙ ap (λ (s : State). s.automaton.0) (sym found.1) in
+    c.then_some.ensures ∙ either_in (drawn d) v _ _ home (c.len.ensures.value ∙ sym (automata_are d))

@@ -2,8 +2,7 @@
 use Rattle.hierarchy.specs.Rules.{Rooted}
 use Rattle.chart_tree.specs.Outlines.{drawn}
 use Rattle.chart_tree.specs.Regions.{Stage, Sides}
-use Rattle.std.proofs.Common.{◌≡◌, length}
 use Rattle.chart_tree.proofs.tree.sides.Given as goal
 
 abbrev pub invariant-loop-a : goal.invariant-loop-a
-invariant-loop-a l = (length l.beside ≡ 24) × (Rooted (drawn l.drawing) → Stage (drawn l.drawing) 0 l.regions → Sides (drawn l.drawing) l.a l.beside)
+invariant-loop-a l = Rooted (drawn l.drawing) → Stage (drawn l.drawing) 0 l.regions → Sides (drawn l.drawing) l.a l.beside

@@ -9,8 +9,7 @@ pub returns-in-Some : goal.returns-in-Some
 returns-in-Some c rooted stage =
     let d = c.args.drawing.now in
     stage_more (drawn d) (proper d) rooted c.args.automaton.0 c.in-Some.stand c.in-Some.ensures c.args.self.now stage
-    c.at-inner.result c.insert-self.result c.join.new.table c.join-in-Some.new.table c.at-inner.ensures c.join.ensures c.join-in-Some.ensures c.insert-self.ensures
-    (omega arith) (omega arith)
+    c.at-inner.result c.insert-self.result c.join.new.self c.join-in-Some.new.self c.at-inner.ensures c.join.ensures c.join-in-Some.ensures c.insert-self.ensures
 
 pub returns-in_default : goal.returns-in_default
 returns-in_default c rooted stage =
