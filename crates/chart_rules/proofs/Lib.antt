@@ -1,4 +1,5 @@
 pub mod Lists
 pub mod Loops
 pub mod Said
+pub mod Somes
 pub mod Transitions

@@ -1,18 +1,20 @@
 -- A loop that looks for the first fault. Assumes nothing.
-use Rattle.std.proofs.Common.{◌≡◌, ℕ, ◌+◌, ◌<◌, ◌≤◌, true, false, is_some, Some, None, Option, sym, refl, ap, ◌∙◌, inl, inr, arith}
-use Rattle.std.proofs.lemmas.Bool.{both_ways, cases_eq}
-use Rattle.hierarchy.specs.Checks.{first_of}
-use Rattle.hierarchy.proofs.Firsts.{first_none, first_some}
+use Rattle.std.proofs.Common.{◌≡◌, ℕ, ◌+◌, ◌<◌, ◌≤◌, None, Ok, Err, Option, Result, sym, ap, ◌∙◌, inl, inr, arith}
+use Rattle.std.proofs.lemmas.Bool.{cases_eq}
+use Rattle.hierarchy.specs.Checks.{first_of, unless_broken}
+use Rattle.hierarchy.proofs.Firsts.{first_none, first_some, kept, broken}
 
 module _ {F : Type 0} (n : ℕ) (g : ℕ → Option F) (k : ℕ) (passed : first_of k g ≡ None) where
-  pub found : (r : Option F) → k < n → r ≡ g k → is_some r ≡ true → r ≡ first_of n g
-  found None lt e t = absurd (both_ways false refl t)
-  found (Some f) lt e t = sym ((first_some n g f).1 (k, (lt, sym e, (first_none k g).0 passed)))
+  abbrev pub Answer : Type 0
+  Answer = Result (Unit {0}) F
 
-  pub passed_more : (r : Option F) → r ≡ g k → is_some r ≡ false → first_of (k + 1) g ≡ None
-  passed_more (Some f) e t = absurd (both_ways true t refl)
-  passed_more None e t =
-      (first_none (k + 1) g).1 (λ j lt. elim (cases_eq j k) [ inl same ↦ ap g same ∙ sym e | inr ne ↦ (first_none k g).0 passed j (omega arith) ])
+  pub found : (f : F) → k < n → ◌≡◌ {A = Answer} (Err f) (unless_broken tt (g k)) → ◌≡◌ {A = Answer} (Err f) (unless_broken tt (first_of n g))
+  found f lt e = ap (unless_broken tt) (sym ((first_some n g f).1 (k, (lt, broken tt f (g k) e, (first_none k g).0 passed))))
 
-  pub none_left : n ≤ k → None ≡ first_of n g
-  none_left le = sym ((first_none n g).1 (λ j lt. (first_none k g).0 passed j (omega arith)))
+  pub passed_more : (u : Unit {0}) → ◌≡◌ {A = Answer} (Ok u) (unless_broken tt (g k)) → first_of (k + 1) g ≡ None
+  passed_more u e =
+      (first_none (k + 1) g).1
+      (λ j lt. elim (cases_eq j k) [ inl same ↦ ap g same ∙ kept tt u (g k) e | inr ne ↦ (first_none k g).0 passed j (omega arith) ])
+
+  pub none_left : n ≤ k → ◌≡◌ {A = Answer} (Ok tt) (unless_broken tt (first_of n g))
+  none_left le = ap (unless_broken tt) (sym ((first_none n g).1 (λ j lt. (first_none k g).0 passed j (omega arith))))

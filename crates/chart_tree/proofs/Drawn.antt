@@ -34,19 +34,20 @@ unfolding drawn
 home_past d v xs same past =
     ap (λ (s : State). s.automaton.0) (get_or_past (items d.states) v (no_state (length (items d.automata))) (omega (arith, ap length same)))
 
-pub automaton_read : (d : Drawing) (a : ℕ) (e : Automaton) (xs : List Automaton) → xs ≡ items d.automata → a < length xs → get_or (items d.automata) a no_automaton ≡ get_or xs a e
-automaton_read d a e xs same lt =
+-- the automaton x in its place
+automaton_read : (d : Drawing) (a : ℕ) (x : Automaton) (xs : List Automaton) → xs ≡ items d.automata → a < length xs → x ≡ get_or xs a x → get_or (items d.automata) a no_automaton ≡ x
+automaton_read d a x xs same lt here =
     let n : a < length (items d.automata) = omega (arith, ap length same) in
-    get_or_default (items d.automata) a no_automaton e n ∙ ap (λ (ys : List Automaton). get_or ys a e) (sym same)
+    get_or_default (items d.automata) a no_automaton x n ∙ ap (λ (ys : List Automaton). get_or ys a x) (sym same) ∙ sym here
 
-pub parent_read : (d : Drawing) (a : ℕ) (e : Automaton) (xs : List Automaton) → xs ≡ items d.automata → a < length xs → (drawn d).parent a ≡ parent_state (get_or xs a e).parent
+pub parent_read : (d : Drawing) (a : ℕ) (x : Automaton) (xs : List Automaton) → xs ≡ items d.automata → a < length xs → x ≡ get_or xs a x → (drawn d).parent a ≡ parent_state x.parent
 unfolding drawn
-parent_read d a e xs same lt = ap (λ (x : Automaton). parent_state x.parent) (automaton_read d a e xs same lt)
+parent_read d a x xs same lt here = ap (λ (y : Automaton). parent_state y.parent) (automaton_read d a x xs same lt here)
 
 pub parent_past : (d : Drawing) (a : ℕ) (xs : List Automaton) → xs ≡ items d.automata → length xs ≤ a → (drawn d).parent a ≡ None
 unfolding drawn
 parent_past d a xs same past = ap (λ (x : Automaton). parent_state x.parent) (get_or_past (items d.automata) a no_automaton (omega (arith, ap length same)))
 
-pub initial_read : (d : Drawing) (a : ℕ) (e : Automaton) (xs : List Automaton) → xs ≡ items d.automata → a < length xs → (drawn d).initial a ≡ (get_or xs a e).initial.0
+pub initial_read : (d : Drawing) (a : ℕ) (x : Automaton) (xs : List Automaton) → xs ≡ items d.automata → a < length xs → x ≡ get_or xs a x → (drawn d).initial a ≡ x.initial.0
 unfolding drawn
-initial_read d a e xs same lt = ap (λ (x : Automaton). x.initial.0) (automaton_read d a e xs same lt)
+initial_read d a x xs same lt here = ap (λ (y : Automaton). y.initial.0) (automaton_read d a x xs same lt here)

@@ -58,14 +58,14 @@ impl Outline {
 
     // The states below a state.
     pub fn below(&self, state: StateId) -> Set64
-        ensures { Rooted (drawn self.now.drawing) → (v : ℕ) → Decides (has result v) (Below (drawn self.now.drawing) v state.0) }
+        ensures { let h = drawn self.now.drawing in Rooted h → (v : ℕ) → Decides (has result v) (Below h v state.0) }
     {
         self.tree.below(state)
     }
 
     // The states that are orthogonal to a state: to one in no automaton of the drawing, none.
     pub fn orthogonal(&self, state: StateId) -> Set64
-        ensures { Rooted (drawn self.now.drawing) → (w : ℕ) → Decides (has result w) (Orthogonal (drawn self.now.drawing) state.0 w) }
+        ensures { let h = drawn self.now.drawing in Rooted h → (w : ℕ) → Decides (has result w) (Orthogonal h state.0 w) }
     {
         match home_of(&self.drawing, state) {
             Some(home) => self.tree.beside(home),
@@ -75,7 +75,7 @@ impl Outline {
 
     // The states that are not basic.
     pub fn composite(&self) -> Set64
-        ensures { Rooted (drawn self.now.drawing) → (u : ℕ) → Decides (has result u) ((a : ℕ) × Under (drawn self.now.drawing) a u) }
+        ensures { let h = drawn self.now.drawing in Rooted h → (u : ℕ) → Decides (has result u) ((a : ℕ) × Under h a u) }
     {
         self.tree.composite()
     }

@@ -35,7 +35,7 @@ fn members(drawing: &Drawing) -> Table<MOST_AUTOMATA>
 impl Regions {
     // What lies in an automaton lies in the one above it too, and below the state that it stands under.
     fn gather(&mut self, drawing: &Drawing, automaton: AutomatonId)
-        ensures { Rooted (drawn drawing.now) → Stage (drawn drawing.now) (automaton.0 + 1) self.old → Stage (drawn drawing.now) automaton.0 self.new }
+        ensures { let h = drawn drawing.now in Rooted h → Stage h (automaton.0 + 1) self.old → Stage h automaton.0 self.new }
     {
         if let Some(stand) = stand_of(drawing, automaton) {
             let inner = self.within.at(automaton.0);
@@ -46,7 +46,7 @@ impl Regions {
     }
 
     pub fn new(drawing: &Drawing) -> Regions
-        ensures { Rooted (drawn drawing.now) → Stage (drawn drawing.now) 0 result }
+        ensures { let h = drawn drawing.now in Rooted h → Stage h 0 result }
     {
         let mut regions = Regions {
             within: members(drawing),

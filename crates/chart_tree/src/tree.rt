@@ -31,7 +31,7 @@ fn sides_of(
     beside: &Table<MOST_AUTOMATA>,
     automaton: AutomatonId,
 ) -> Set64
-    ensures { Rooted (drawn drawing.now) → Stage (drawn drawing.now) 0 regions.now → Sides (drawn drawing.now) automaton.0 beside.now → (v w : ℕ) → (drawn drawing.now).home v ≡ automaton.0 → Decides (has result w) (Orthogonal (drawn drawing.now) v w) }
+    ensures { let h = drawn drawing.now in Rooted h → Stage h 0 regions.now → Sides h automaton.0 beside.now → (v w : ℕ) → h.home v ≡ automaton.0 → Decides (has result w) (Orthogonal h v w) }
 {
     let Some(stand) = stand_of(drawing, automaton) else {
         return Set64::empty();
@@ -45,7 +45,7 @@ fn sides_of(
 
 // The states orthogonal to those of each automaton.
 fn sides(drawing: &Drawing, regions: &Regions) -> Table<MOST_AUTOMATA>
-    ensures { Rooted (drawn drawing.now) → Stage (drawn drawing.now) 0 regions.now → Sides (drawn drawing.now) (drawn drawing.now).automata result }
+    ensures { let h = drawn drawing.now in Rooted h → Stage h 0 regions.now → Sides h h.automata result }
 {
     let mut beside = Table::blank();
     for a in 0..drawing.automata.len() {
@@ -57,7 +57,7 @@ fn sides(drawing: &Drawing, regions: &Regions) -> Table<MOST_AUTOMATA>
 
 impl Tree {
     pub fn new(drawing: &Drawing) -> Tree
-        ensures { Rooted (drawn drawing.now) → Outlines (drawn drawing.now) result }
+        ensures { let h = drawn drawing.now in Rooted h → Outlines h result }
     {
         let regions = Regions::new(drawing);
         let beside = sides(drawing, &regions);

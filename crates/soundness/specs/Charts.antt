@@ -8,13 +8,13 @@
 --     KnownConflict h t u   t and u are transitions of the chart, and conflict
 --     none_plan             the chart `none`: one event, one automaton, one state, no transition
 --     RulesLaw              what the calculation of the first broken rule means, for every plan
-use Rattle.std.specs.Prelude.{◌≡◌, ℕ, ◌<◌, ◌≤◌, ◌⊎◌, [], ◌∷◌, Some, None, Ok, Err, codes, Option, Result}
+use Rattle.std.specs.Prelude.{◌≡◌, ℕ, ◌<◌, ◌≤◌, ◌⊎◌, [], ◌∷◌, Some, None, codes, Option, Result}
 use Rattle.chart.specs.declared.id.StateId.{StateId}
 use Rattle.chart.specs.declared.drawing.Drawing.{Drawing}
 use Rattle.chart.specs.declared.drawing.Parent.TheVariants.{Top}
 use Rattle.chart.specs.Kinds.{state_no, automaton_no}
 use Rattle.chart.specs.Plans.{Plan, plan_of}
-use Rattle.hierarchy.specs.Checks.{first_fault, Checked}
+use Rattle.hierarchy.specs.Checks.{first_fault, unless_broken, Checked}
 use Rattle.hierarchy.specs.Hierarchies.{Hierarchy, Below, Conflict}
 use Rattle.hierarchy.specs.Meant.{hierarchy_of}
 use Rattle.hierarchy.specs.declared.fault.ChartFault.{ChartFault}
@@ -22,17 +22,13 @@ use Rattle.chart_tree.specs.Outlines.{drawn}
 use Rattle.soundness.specs.declared.sound_chart.Chart.{Chart}
 
 abbrev pub chart_drawing : Chart → Drawing
-chart_drawing c = c.drawing
+chart_drawing c = c.outline.drawing
 
 abbrev pub chart_hierarchy : Chart → Hierarchy
-chart_hierarchy c = drawn c.drawing
+chart_hierarchy c = drawn c.outline.drawing
 
 abbrev pub chart_plan : Chart → Plan
-chart_plan c = plan_of c.drawing
-
-abbrev pub unless_broken : {A : Type 0} → A → Option ChartFault → Result A ChartFault
-unless_broken a None = Ok a
-unless_broken a (Some f) = Err f
+chart_plan c = plan_of c.outline.drawing
 
 abbrev pub checked : Drawing → Result Drawing ChartFault
 checked d = unless_broken d (first_fault (drawn d))

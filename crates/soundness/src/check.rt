@@ -7,25 +7,19 @@ ghost use Rattle.soundness.specs.Charts.{chart_drawing, checked, RulesLaw};
 
 use super::sound_chart::Chart;
 use chart::drawing::Drawing;
-use chart::id::StateId;
-use chart_rules::automaton::automata_fault;
-use chart_rules::transition::transitions_fault;
-use chart_tree::outline::home_of;
-use chart_tree::tree::Tree;
+use chart_rules::automaton::check_automata;
+use chart_rules::transition::check_transitions;
+use chart_tree::outline::Outline;
 use hierarchy::fault::ChartFault;
 
 // A chart, if the drawing keeps every rule; else the first rule that it breaks.
 pub(crate) fn judge(drawing: Drawing) -> Result<Chart, ChartFault>
     ensures { by chart_drawing result ≡ checked drawing }
 {
-    if let Some(fault) = automata_fault(&drawing) {
-        return Err(fault);
-    }
-    let tree = Tree::new(&drawing);
-    if let Some(fault) = transitions_fault(&drawing, &tree) {
-        return Err(fault);
-    }
-    Ok(Chart { drawing, tree })
+    check_automata(&drawing)?;
+    let outline = Outline::new(drawing);
+    check_transitions(&outline)?;
+    Ok(Chart { outline })
 }
 
 // The same, and what the rules mean for every plan.

@@ -8,7 +8,6 @@ ghost use Rattle.soundness.specs.Charts.{chart_drawing, chart_hierarchy, SourceG
 use super::sound_chart::Chart;
 use chart::drawing::Drawing;
 use chart::id::{StateId, TransitionId};
-use chart_tree::outline::home_of;
 
 impl Chart {
     // The drawing, which is sound.
@@ -17,66 +16,54 @@ impl Chart {
         ensures sound { Sound (chart_hierarchy self.now) }
         ensures laws { TreeLaws (chart_hierarchy self.now) }
     {
-        &self.drawing
+        &self.outline.drawing
     }
 
     // Whether the first state is below the second.
     pub fn is_below(&self, state: StateId, upper: StateId) -> bool
         ensures { Decides result (Below (chart_hierarchy self.now) state.0 upper.0) }
     {
-        self.tree.below(upper).contains(state.0)
+        self.outline.below(upper).contains(state.0)
     }
 
     // Whether two states are orthogonal.
     pub fn is_orthogonal(&self, state: StateId, other: StateId) -> bool
         ensures { Decides result (Orthogonal (chart_hierarchy self.now) state.0 other.0) }
     {
-        match home_of(&self.drawing, state) {
-            Some(home) => self.tree.beside(home).contains(other.0),
-            None => false,
-        }
+        self.outline.orthogonal(state).contains(other.0)
     }
 
     // Whether no automaton stands under a state.
     pub fn is_basic(&self, state: StateId) -> bool
         ensures { Decides result (Basic (chart_hierarchy self.now) state.0) }
     {
-        !self.tree.composite().contains(state.0)
+        !self.outline.composite().contains(state.0)
     }
 
     // The source of a transition, if the chart has it.
     fn source_of(&self, transition: TransitionId) -> Option<StateId>
         ensures { SourceGives (chart_hierarchy self.now) transition.0 result }
     {
-        let transitions = self.drawing.transitions.as_slice();
-        let index = transition.0 as usize;
-        if index < transitions.len() {
-            Some(transitions[index].source)
-        } else {
-            None
-        }
+        let transitions = self.outline.drawing.transitions.as_slice();
+        transitions
+            .get(transition.0 as usize)
+            .map(|transition| transition.source)
     }
 
     // Whether two states are equal, or one is below the other.
     fn are_related(&self, state: StateId, other: StateId) -> bool
         ensures { Decides result (Related (chart_hierarchy self.now) state.0 other.0) }
     {
-        if state.0 == other.0 || self.is_below(state, other) {
-            return true;
-        }
-        self.is_below(other, state)
+        state == other || self.is_below(state, other) || self.is_below(other, state)
     }
 
     // Whether two transitions of the chart conflict: they differ, and their sources are equal or one is below the other.
     pub fn is_conflict(&self, first: TransitionId, second: TransitionId) -> bool
         ensures { Decides result (KnownConflict (chart_hierarchy self.now) first.0 second.0) }
     {
-        if first.0 == second.0 {
+        let (Some(source), Some(other)) = (self.source_of(first), self.source_of(second)) else {
             return false;
-        }
-        match (self.source_of(first), self.source_of(second)) {
-            (Some(source), Some(other)) => self.are_related(source, other),
-            _ => false,
-        }
+        };
+        first != second && self.are_related(source, other)
     }
 }

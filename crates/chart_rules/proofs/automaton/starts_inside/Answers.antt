@@ -1,27 +1,32 @@
 -- `automaton::starts_inside`: by the automaton of its initial state. Assumes nothing.
-use Rattle.std.proofs.Common.{false, length, sym, refl, ap, ◌∙◌, arith}
-use Rattle.std.proofs.lemmas.Bool.{both_ways}
-use Rattle.std.proofs.lemmas.Bool.Decides.{Decides-like, Decides-eqb}
-use Rattle.chart.specs.declared.drawing.Parent.TheVariants.{Top}
-use Rattle.chart_tree.specs.Outlines.{drawn}
+use Rattle.std.proofs.Common.{◌≡◌, ℕ, ◌<◌, Bool, false, eqb, length, Some, Decides, sym, refl, ap, ◌∙◌, subst, inl, inr, arith}
+use Rattle.std.specs.Option.{option_eq}
+use Rattle.std.proofs.lemmas.Bool.{both_ways, cases_lt, lt-ltb, le-ltb}
+use Rattle.std.proofs.lemmas.Bool.Decides.{Decides-at, Decides-eqb}
+use Rattle.chart.specs.declared.id.AutomatonId.{AutomatonId}
+use Rattle.hierarchy.specs.Hierarchies.{Hierarchy}
+use Rattle.chart_tree.specs.Outlines.{drawn, home_in}
 use Rattle.chart_tree.proofs.Drawn.{automata_are, initial_read}
-use Rattle.chart_tree.proofs.Homes.{none_out, some_out}
 use Rattle.chart_rules.proofs.automaton.starts_inside.Goals as goal
 
-pub returns-then-index-automata : goal.returns-then-index-automata
-returns-then-index-automata c lt = let d = c.args.drawing.now in absurd (omega (arith, automata_are d, ap length c.as_slice-automata.ensures.value))
+pub returns-in_default : goal.returns-in_default
+returns-in_default c lt = let d = c.args.drawing.now in absurd (omega (arith, automata_are d, ap length c.as_slice.ensures.value, c.in_default.ensures.lookup.3))
 
-pub returns-in-Some : goal.returns-in-Some
-returns-in-Some c lt =
-    let d = c.args.drawing.now in
-    let at = initial_read d c.args.automaton.0 _ _ c.as_slice-automata.ensures.value c.if-index-automata.false in
-    let r = some_out (drawn d) _ c.in-Some.home c.in-Some.ensures in
-    let home = ap (drawn d).home at ∙ r.0 in
-    Decides-like _ (λ e. home ∙ e) (λ e. sym home ∙ e) (Decides-eqb c.in-Some.home.0 c.args.automaton.0)
+abbrev same_no : AutomatonId → AutomatonId → Bool
+same_no a b = eqb a.0 b.0
 
-pub returns-in-None : goal.returns-in-None
-returns-in-None c lt =
+-- whether the automaton that a state lies in is this one
+lies_in : (h : Hierarchy) (v : ℕ) (a : AutomatonId) → a.0 < h.automata → Decides (option_eq same_no (home_in h v) (Some a)) (h.home v ≡ a.0)
+lies_in h v a lt =
+    elim (cases_lt (h.home v) h.automata) [
+      | inl known ↦ let t = lt-ltb (h.home v) h.automata known in rw t (Decides-eqb (h.home v) a.0)
+      | inr past ↦ let f = le-ltb (h.home v) h.automata past in rw f ((λ e. absurd (both_ways false refl e)), (λ e. absurd (omega arith)))
+    ]
+
+pub returns : goal.returns
+returns c lt =
     let d = c.args.drawing.now in
-    let at = initial_read d c.args.automaton.0 (record { parent = Top; initial = record { 0 = 0 } }) _ c.as_slice-automata.ensures.value c.if-index-automata.false in
-    let past = none_out (drawn d) _ c.in-None.ensures in
-    ((λ t. absurd (both_ways false refl t)), λ e. absurd (omega (arith, past, ap (drawn d).home at, e)))
+    let found = c.in-Some.ensures.lookup in
+    let initial = initial_read d c.args.automaton.0 c.in-Some.said.now _ c.as_slice.ensures.value found.3.0 found.1 in
+    subst (λ v. Decides c.eq.result ((drawn d).home v ≡ c.args.automaton.0)) (sym initial)
+    (Decides-at _ _ (c.eq.ensures ∙ ap (λ o. option_eq same_no o (Some c.args.automaton)) c.home_of.ensures) (lies_in (drawn d) c.in-Some.said.now.initial.0 c.args.automaton lt))

@@ -1,8 +1,5 @@
 -- `outline::stand_of`: what the automaton's parent says. Assumes nothing.
-use Rattle.std.proofs.Common.{◌≡◌, ℕ, ◌<◌, ◌≤◌, List, length, get_or, None, sym, ap, ◌∙◌, subst, arith}
-use Rattle.fixed.specs.Items.{items}
-use Rattle.chart.specs.declared.drawing.Automaton.{Automaton}
-use Rattle.chart.specs.declared.drawing.Drawing.{Drawing}
+use Rattle.std.proofs.Common.{◌≡◌, ℕ, ◌≤◌, None, sym, ap, ◌∙◌, subst, arith}
 use Rattle.hierarchy.specs.Hierarchies.{Hierarchy, Under}
 use Rattle.hierarchy.specs.Meant.{parent_state}
 use Rattle.hierarchy.proofs.Tree.{not_some}
@@ -17,10 +14,6 @@ nowhere h a e p u = absurd (not_some _ p e u)
 outside : (h : Hierarchy) (a s : ℕ) → Under h a s → h.automata ≤ h.home s → StandGives h a None
 outside h a s u past p v = let same : p ≡ s = cc in subst (λ z. h.automata ≤ h.home z) (sym same) past
 
--- what stands in the automaton's place says its parent
-said : (d : Drawing) (a : ℕ) (x : Automaton) (xs : List Automaton) → xs ≡ items d.automata → a < length xs → x ≡ get_or xs a x → (drawn d).parent a ≡ parent_state x.parent
-said d a x xs same lt here = parent_read d a x xs same lt ∙ ap (λ (y : Automaton). parent_state y.parent) (sym here)
-
 pub returns-in_err-automaton : goal.returns-in_err-automaton
 returns-in_err-automaton c =
     let d = c.args.drawing.now in
@@ -33,7 +26,7 @@ returns-in-Top c =
     let d = c.args.drawing.now in
     let a = c.args.automaton.0 in
     let found = c.in_ok-automaton.ensures.lookup in
-    let parent = said d a c.in_ok-automaton.automaton.now _ c.as_slice.ensures.value found.3.0 found.1 in
+    let parent = parent_read d a c.in_ok-automaton.automaton.now _ c.as_slice.ensures.value found.3.0 found.1 in
     nowhere (drawn d) a (parent ∙ ap parent_state c.in-Top.is)
 
 pub returns-in_err-home_of-in-State : goal.returns-in_err-home_of-in-State
@@ -42,7 +35,7 @@ returns-in_err-home_of-in-State c =
     let a = c.args.automaton.0 in
     let s = c.in-State.state.0 in
     let found = c.in_ok-automaton.ensures.lookup in
-    let parent = said d a c.in_ok-automaton.automaton.now _ c.as_slice.ensures.value found.3.0 found.1 in
+    let parent = parent_read d a c.in_ok-automaton.automaton.now _ c.as_slice.ensures.value found.3.0 found.1 in
     subst (λ o. StandGives (drawn d) a o) (sym c.from_residual-in_err-home_of-in-State.ensures)
     (outside (drawn d) a s (parent ∙ ap parent_state c.in-State.is) (none_out (drawn d) s c.in_err-home_of-in-State.ensures))
 
@@ -51,6 +44,6 @@ returns-in_ok-home_of-in-State c =
     let d = c.args.drawing.now in
     let a = c.args.automaton.0 in
     let found = c.in_ok-automaton.ensures.lookup in
-    let parent = said d a c.in_ok-automaton.automaton.now _ c.as_slice.ensures.value found.3.0 found.1 in
+    let parent = parent_read d a c.in_ok-automaton.automaton.now _ c.as_slice.ensures.value found.3.0 found.1 in
     let r = some_out (drawn d) c.in-State.state.0 c.in_ok-home_of-in-State.field-0 c.in_ok-home_of-in-State.ensures in
     record { under = parent ∙ ap parent_state c.in-State.is; home = r.0; known = omega (arith, r.0, r.1) }

@@ -7,5 +7,5 @@ use Rattle.soundness.proofs.sound_chart.Chart.drawing.Goals as goal
 
 pub returns : goal.returns
 returns c =
-    let d = c.args.self.now.drawing in
+    let d = c.args.self.now.outline.drawing in
     let s = chart_sound c.args.self.now in record { value = refl; sound = s; laws = tree_law (drawn d) s.rooted }

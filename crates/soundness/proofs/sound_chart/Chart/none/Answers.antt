@@ -2,11 +2,11 @@
 use Rattle.std.proofs.Common.{◌≡◌, ℕ, None, Ok, Err, ap, ◌∙◌, arith}
 use Rattle.chart.specs.Plans.{plan_of}
 use Rattle.chart.specs.declared.drawing.Drawing.{Drawing}
-use Rattle.hierarchy.specs.Checks.{first_fault}
+use Rattle.hierarchy.specs.Checks.{first_fault, unless_broken}
 use Rattle.hierarchy.specs.Meant.{hierarchy_of}
 use Rattle.hierarchy.specs.declared.fault.ChartFault.{ChartFault}
 use Rattle.chart_tree.specs.Outlines.{drawn}
-use Rattle.soundness.specs.Charts.{unless_broken, checked, none_plan}
+use Rattle.soundness.specs.Charts.{checked, none_plan}
 use Rattle.soundness.proofs.sound_chart.Chart.none.Goals as goal
 
 none_sound : (d : Drawing) → plan_of d ≡ none_plan → first_fault (drawn d) ≡ None
