@@ -14,7 +14,7 @@ cases_option None = inl refl
 cases_option (Some p) = inr (p, refl)
 
 pub not_some : {X : Type 0} (o : Option X) (p : X) → o ≡ None → o ≡ Some p → ⊥
-not_some o p h k = let z : ◌≡◌ {A = ℕ} 0 1 = cc in omega arith
+not_some o p h k = cc
 
 -- the least number below n with P, or none
 pub least : (P : ℕ → Type 0) → ((k : ℕ) → Decided (P k)) → (n : ℕ) → ((k : ℕ) × (k < n) × P k × ((j : ℕ) → j < k → P j → ⊥)) ⊎ ((k : ℕ) → k < n → P k → ⊥)

@@ -7,7 +7,7 @@
 --     first_fault h         the first rule that is broken
 --     unless_broken a o     the value a, where there is no fault; else the fault
 --     CheckLaw              no fault is found exactly where the hierarchy is sound, and a fault exactly where it is the first broken rule
-use Rattle.std.specs.Prelude.{◌≡◌, ℕ, zero, suc, max, Bool, true, false, cond, not, ◌&&◌, ◌||◌, ltb, ◌↔◌, List, [], ◌∷◌, Some, None, Ok, Err, Option, Result, ◌==◌, nat_eq, nat_lt}
+use Rattle.std.specs.Prelude.{◌≡◌, ℕ, zero, suc, max, Bool, true, false, cond, not, ◌&&◌, ◌||◌, ◌↔◌, List, [], ◌∷◌, Some, None, Ok, Err, Option, Result, ◌==◌, nat_eq, nat_lt}
 use Rattle.chart.specs.Kinds.{automaton_no}
 use Rattle.chart.specs.declared.id.StateId.{StateId}
 use Rattle.hierarchy.specs.Hierarchies.{Set, these, Hierarchy, Proper}
@@ -57,7 +57,7 @@ spread h vs = every (λ v. every (λ w. (v == w) || orthogonal h v w) vs) vs
 -- the top automaton under nothing, another under a state of a lower-numbered one
 abbrev pub placed : Hierarchy → ℕ → Bool
 placed h zero = nat_lt 0 h.automata && not (over (h.parent 0) (λ p. true))
-placed h (suc a) = over (h.parent (suc a)) (λ p. ltb (h.home p) (suc a))
+placed h (suc a) = over (h.parent (suc a)) (λ p. nat_lt (h.home p) (suc a))
 
 abbrev pub starts : Hierarchy → ℕ → Bool
 starts h a = h.home (h.initial a) == a

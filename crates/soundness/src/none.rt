@@ -31,9 +31,6 @@ impl Chart {
     pub fn none() -> Chart
         ensures { chart_plan result ≡ none_plan }
     {
-        match judge(least()) {
-            Ok(chart) => chart,
-            Err(_) => unreachable(),
-        }
+        judge(least()).unwrap()
     }
 }
