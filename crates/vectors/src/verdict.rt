@@ -1,7 +1,7 @@
 // What is to become of a text, and tables of such expectations.
 use super::text::{Piece, assembled, replaced};
 use chart::drawing::Drawing;
-use chart_reader::reader::read;
+use chart_reader::reader::{MOST_TEXT_BYTES, read};
 use chart_writer::write;
 use std::alloc::Global;
 use std::process::Abort;
@@ -13,29 +13,21 @@ pub enum Verdict {
     Accepted,
     // read, and written back in another way: what is never to be
     Changed,
-    // the number, the line and the element of the refusal
+    // the number, the line and the element of the refusal: what the format says of it, in its own numbers
     Refused(u8, u16, Option<u8>),
 }
 
 // Whether the drawing is written as this text.
 fn comes_back(drawing: &Drawing, text: &[u8]) -> bool {
-    let mut out = [0u8; 16384];
-    match write(drawing, &mut out) {
-        Ok(len) => len == text.len() && out.starts_with(text),
-        Err(_) => false,
-    }
+    let mut out = [0u8; MOST_TEXT_BYTES];
+    write(drawing, &mut out) == Ok(text.len()) && out.starts_with(text)
 }
 
 // What becomes of a text.
 pub fn verdict_on(text: &[u8]) -> Verdict {
     match read(text) {
-        Ok(drawing) => {
-            if comes_back(&drawing, text) {
-                Verdict::Accepted
-            } else {
-                Verdict::Changed
-            }
-        }
+        Ok(drawing) if comes_back(&drawing, text) => Verdict::Accepted,
+        Ok(_) => Verdict::Changed,
         Err(fault) => Verdict::Refused(fault.number(), fault.line(), fault.element()),
     }
 }
