@@ -35,7 +35,7 @@ fn at_the_end_of_a_list(byte: u8) -> Verdict {
     }
 }
 
-// A line of the worked chart as the byte with what stands before and behind it.
+// Line `number` of the worked chart as the byte with what stands before and behind it.
 fn hold_byte(
     rt: &impl Abort,
     heap: Global,
@@ -83,7 +83,7 @@ fn a_carriage_return_belongs_to_the_last_element(rt: HostRuntime) -> Result<(), 
     Ok(())
 }
 
-static ENDS_AND_MARKS: [(&[u8], Verdict); 5] = [
+static ENDS_AND_MARKS: &[(&[u8], Verdict)] = &[
     (b"chart=rower\revents=3\rautomata=3\r", Refused(2, 1, None)),
     (
         b"chart=rower\r\nevents=3\r\nautomata=3\r\n",
@@ -101,7 +101,7 @@ static ENDS_AND_MARKS: [(&[u8], Verdict); 5] = [
 fn a_line_feed_alone_ends_a_line_and_no_mark_stands_before_the_first(
     rt: HostRuntime,
 ) -> Result<(), Fail> {
-    for (text, expected) in &ENDS_AND_MARKS {
+    for (text, expected) in ENDS_AND_MARKS {
         judged(&rt, text, *expected)?;
     }
     Ok(())

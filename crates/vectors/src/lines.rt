@@ -36,7 +36,7 @@ fn a_line_without_an_end_is_refused_however_long_or_wrong_it_is(
     Ok(())
 }
 
-static LONGEST: [Case; 4] = [
+static LONGEST: &[Case] = &[
     Case(
         1,
         b"x77777777777777777777777777777777777777777777777777777777777777777777777777777777777777777777777",
@@ -59,7 +59,7 @@ static LONGEST: [Case; 4] = [
     ),
 ];
 
-static OVERLONG: [Case; 4] = [
+static OVERLONG: &[Case] = &[
     Case(
         1,
         b"x777777777777777777777777777777777777777777777777777777777777777777777777777777777777777777777777",
@@ -90,17 +90,17 @@ fn check_length(rt: &impl Abort, cases: &[Case], len: usize) {
 
 #[test]
 fn a_line_of_97_bytes_is_too_long_and_one_of_96_is_not(rt: HostRuntime) -> Result<(), Fail> {
-    check_length(&rt, &LONGEST, 96);
-    hold(&rt, rt.alloc(), WORKED, &LONGEST)?;
-    check_length(&rt, &OVERLONG, 97);
-    hold(&rt, rt.alloc(), WORKED, &OVERLONG)
+    check_length(&rt, LONGEST, 96);
+    hold(&rt, rt.alloc(), WORKED, LONGEST)?;
+    check_length(&rt, OVERLONG, 97);
+    hold(&rt, rt.alloc(), WORKED, OVERLONG)
 }
 
-static KEYLESS: [&[u8]; 5] = [b"", b"7", b"under", b"=0", b"name=0"];
+static KEYLESS: &[&[u8]] = &[b"", b"7", b"under", b"=0", b"name=0"];
 
 #[test]
 fn every_line_has_to_have_its_due_key(rt: HostRuntime) -> Result<(), Fail> {
-    for line in &KEYLESS {
+    for line in KEYLESS {
         for number in 1..46 {
             hold_one(
                 &rt,
@@ -115,7 +115,7 @@ fn every_line_has_to_have_its_due_key(rt: HostRuntime) -> Result<(), Fail> {
     Ok(())
 }
 
-static KEYS: [Case; 18] = [
+static KEYS: &[Case] = &[
     Case(1, b"chart", Refused(4, 1, None)),
     Case(1, b"chart:rower", Refused(4, 1, None)),
     Case(1, b"Chart=rower", Refused(4, 1, None)),
@@ -138,10 +138,10 @@ static KEYS: [Case; 18] = [
 
 #[test]
 fn a_key_is_due_in_its_place_and_written_exactly(rt: HostRuntime) -> Result<(), Fail> {
-    hold(&rt, rt.alloc(), WORKED, &KEYS)
+    hold(&rt, rt.alloc(), WORKED, KEYS)
 }
 
-static MORE: [Piece; 7] = [
+static MORE: &[Piece] = &[
     Piece(1, b"\n"),
     Piece(1, b"x"),
     Piece(1, b"\0"),
@@ -153,7 +153,7 @@ static MORE: [Piece; 7] = [
 
 #[test]
 fn a_text_does_not_go_on_behind_its_last_due_line(rt: HostRuntime) -> Result<(), Fail> {
-    for more in &MORE {
+    for more in MORE {
         hold_pieces(
             &rt,
             rt.alloc(),
@@ -171,7 +171,7 @@ fn a_text_does_not_go_on_behind_its_last_due_line(rt: HostRuntime) -> Result<(),
 }
 
 // A form before a key, a range before a form, a key before an end, a form before a range, each on an earlier line.
-static FAULTY_TWICE: [(&[u8], Verdict); 6] = [
+static FAULTY_TWICE: &[(&[u8], Verdict)] = &[
     (b"chart=A\nx\n", Refused(5, 1, Some(0))),
     (b"chart=a\nevents=0\nautomata=x\n", Refused(6, 2, Some(0))),
     (b"chart=a\nautomata=1\nstates=1", Refused(4, 2, None)),
@@ -185,7 +185,7 @@ static FAULTY_TWICE: [(&[u8], Verdict); 6] = [
 
 #[test]
 fn the_first_faulty_line_is_the_one_that_is_named(rt: HostRuntime) -> Result<(), Fail> {
-    for (text, expected) in &FAULTY_TWICE {
+    for (text, expected) in FAULTY_TWICE {
         judged(&rt, text, *expected)?;
     }
     Ok(())

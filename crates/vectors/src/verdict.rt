@@ -13,7 +13,8 @@ pub enum Verdict {
     Accepted,
     // read, and written back in another way: what is never to be
     Changed,
-    // the number, the line and the element of the refusal: what the format says of it, in its own numbers
+    // the number, the line and the element of the refusal
+    // kept: as numbers, since the cases name refusals by the numbers that the format gives them
     Refused(u8, u16, Option<u8>),
 }
 
