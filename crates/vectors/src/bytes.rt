@@ -1,7 +1,7 @@
 // Every byte in places where only a few may stand, and ends of lines that are not a line feed alone.
 use super::text::WORKED;
 use super::verdict::Verdict::{Accepted, Refused};
-use super::verdict::{Verdict, hold_one, judged};
+use super::verdict::{Case, Verdict, hold_one, judged};
 use std::alloc::Global;
 use std::process::Abort;
 use std::test::Fail;
@@ -49,7 +49,7 @@ fn hold_byte(
     line.extend_from_slice(front)?;
     line.push(byte)?;
     line.extend_from_slice(rest)?;
-    hold_one(rt, heap, WORKED, number, line.as_slice(), expected)
+    hold_one(rt, heap, WORKED, Case(number, line.as_slice(), expected))
 }
 
 #[test]

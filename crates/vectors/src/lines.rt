@@ -102,14 +102,8 @@ static KEYLESS: &[&[u8]] = &[b"", b"7", b"under", b"=0", b"name=0"];
 fn every_line_has_to_have_its_due_key(rt: HostRuntime) -> Result<(), Fail> {
     for line in KEYLESS {
         for number in 1..46 {
-            hold_one(
-                &rt,
-                rt.alloc(),
-                WORKED,
-                number,
-                line,
-                Refused(4, number, None),
-            )?;
+            let case = Case(number, line, Refused(4, number, None));
+            hold_one(&rt, rt.alloc(), WORKED, case)?;
         }
     }
     Ok(())

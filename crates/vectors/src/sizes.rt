@@ -144,14 +144,8 @@ fn a_chart_of_16384_bytes_is_read_and_one_byte_more_is_too_long(
     let text = assembled(rt.alloc(), LARGEST)?;
     assert_eq!(rt; text.len(), 16384);
     judged(&rt, text.as_slice(), Accepted)?;
-    hold_one(
-        &rt,
-        rt.alloc(),
-        text.as_slice(),
-        1,
-        b"chart=abcd",
-        Refused(1, 0, None),
-    )
+    let longer = Case(1, b"chart=abcd", Refused(1, 0, None));
+    hold_one(&rt, rt.alloc(), text.as_slice(), longer)
 }
 
 #[test]

@@ -52,17 +52,11 @@ pub fn hold_pieces(
 
 // A line of a text, counted from 1; another in its place; and what is to become of the text then.
 #[derive(Clone, Copy)]
-pub struct Case(pub u16, pub &'static [u8], pub Verdict);
+pub struct Case<'a>(pub u16, pub &'a [u8], pub Verdict);
 
 // One line of the text in another way than it stands there.
-pub fn hold_one(
-    rt: &impl Abort,
-    heap: Global,
-    text: &[u8],
-    number: u16,
-    line: &[u8],
-    expected: Verdict,
-) -> Result<(), Fail> {
+pub fn hold_one(rt: &impl Abort, heap: Global, text: &[u8], case: Case) -> Result<(), Fail> {
+    let Case(number, line, expected) = case;
     let changed = replaced(heap, text, number, line)?;
     assert!(rt; changed.as_slice() != text);
     assert_eq!(rt;
@@ -76,8 +70,7 @@ pub fn hold_one(
 // Each case in turn.
 pub fn hold(rt: &impl Abort, heap: Global, text: &[u8], cases: &[Case]) -> Result<(), Fail> {
     for case in cases {
-        let Case(number, line, expected) = *case;
-        hold_one(rt, heap, text, number, line, expected)?;
+        hold_one(rt, heap, text, *case)?;
     }
     Ok(())
 }
