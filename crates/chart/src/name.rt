@@ -1,5 +1,5 @@
 // A chart's name as the value of a line.
-ghost use Rattle.std.specs.Prelude.{◌≡◌, ℕ, List};
+ghost use Rattle.std.specs.Prelude.{◌≡◌, ℕ, List, Some, encode_utf8_all};
 ghost use Rattle.fixed.specs.Items.{items};
 ghost use Rattle.chart.specs.Kinds.{is_name_byte, every, name_of};
 
@@ -7,6 +7,7 @@ use super::drawing::Name;
 use fixed::array_vec::ArrayVec;
 use format::fault::ElementFault;
 use format::value::Value;
+use std::fmt;
 
 // Whether the character may stand in a name.
 fn is_name_char(byte: u8) -> bool
@@ -43,5 +44,18 @@ impl Value for Name {
         } else {
             Err(ElementFault::Form { element: 0 })
         }
+    }
+}
+
+// The name as text: each byte is a character.
+impl fmt::Display for Name {
+    ghost output = { λ n. Some (encode_utf8_all (items n.bytes)) };
+
+    fn fmt<W: fmt::Write>(&self, f: &mut fmt::Formatter<W>) -> fmt::Result {
+        let bytes = self.bytes.as_slice();
+        for byte in bytes {
+            f.write_char(char::from(*byte))?;
+        }
+        Ok(())
     }
 }

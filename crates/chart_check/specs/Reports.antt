@@ -1,8 +1,8 @@
 -- What a report tells of a text. Assumes nothing.
---     Sums p n s       the summary s has the counts of the plan p, and n bytes were written
---     Returned b t o r the answer r whether the bytes b are the text t, by way of a buffer o that is as long as the text
+--     Sums p n s       the summary s has the name and the counts of the plan p, and n bytes were written
 --     Told x n r       the report r of a text of n bytes, of which the reader makes x: no chart comes back changed
-use Rattle.std.specs.Prelude.{◌≡◌, ℕ, Bool, true, List, length, Ok, Err, Result}
+use Rattle.std.specs.Prelude.{◌≡◌, ℕ, length, Ok, Err, Result}
+use Rattle.fixed.specs.Items.{items}
 use Rattle.format.specs.declared.fault.TextFault.{TextFault}
 use Rattle.chart.specs.Plans.{Plan}
 use Rattle.chart_check.specs.Refusals.{Tells}
@@ -11,14 +11,12 @@ use Rattle.chart_check.specs.declared.report.Report.{Report}
 use Rattle.chart_check.specs.declared.report.Report.TheVariants.{Accepted, Changed, Refused}
 
 pub record Sums (p : Plan) (n : ℕ) (s : Summary) : Type 0 where
+  pub name : items s.name.bytes ≡ p.name
   pub events : s.events ≡ p.events
   pub automata : s.automata ≡ length p.automata
   pub states : s.states ≡ length p.states
   pub transitions : s.transitions ≡ length p.transitions
   pub written : s.written ≡ n
-
-abbrev pub Returned : List ℕ → List ℕ → List ℕ → Bool → Type 0
-Returned bytes text out r = length out ≡ length text → (bytes ≡ text → r ≡ true) × (r ≡ true → bytes ≡ text)
 
 abbrev pub Told : Result Plan TextFault → ℕ → Report → Type 0
 Told (Ok p) n (Accepted s) = Sums p n s

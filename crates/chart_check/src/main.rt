@@ -3,6 +3,7 @@
 
 use self::report::report_on;
 use anyhow::Context;
+use chart_reader::reader::MOST_TEXT_BYTES;
 use std::fs::File;
 use std::io;
 use std::io::Read;
@@ -12,8 +13,8 @@ mod report;
 
 const PATH: &str = "chart.txt";
 
-// A chart has at most 16,384 bytes: one more is enough to see that there are too many.
-const MOST_READ_BYTES: u64 = 16385;
+// One byte more than a chart has is enough to see that there are too many.
+const MOST_READ_BYTES: u64 = MOST_TEXT_BYTES as u64 + 1;
 
 // The start of the file, with no more bytes than are needed.
 fn load(rt: &HostRuntime) -> io::Result<Vec<u8>> {

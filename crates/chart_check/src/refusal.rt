@@ -47,18 +47,16 @@ impl fmt::Display for Refusal {
     }
 }
 
-// Where the fault is.
-fn place_of(fault: TextFault) -> Place
-    ensures line { place_line result ≡ fault_line fault }
-    ensures element { place_element result ≡ fault_element fault }
-{
-    match (fault, fault.element()) {
-        (TextFault::Oversize, _) => Place::Text,
-        (_, Some(element)) => Place::Element {
-            line: fault.line(),
-            element,
-        },
-        (_, None) => Place::Line(fault.line()),
+impl From<TextFault> for Place {
+    ghost from_gives = { λ f p. (place_line p ≡ fault_line f) × (place_element p ≡ fault_element f) };
+
+    fn from(fault: TextFault) -> Place {
+        let line = fault.line();
+        match (fault, fault.element()) {
+            (TextFault::Oversize, _) => Place::Text,
+            (_, None) => Place::Line(line),
+            (_, Some(element)) => Place::Element { line, element },
+        }
     }
 }
 
@@ -96,14 +94,13 @@ fn text_meaning(fault: TextFault) -> &'static str
     }
 }
 
-impl Refusal {
-    // The refusal that the fault is.
-    pub fn new(fault: TextFault) -> Refusal
-        ensures { Tells fault result }
-    {
+impl From<TextFault> for Refusal {
+    ghost from_gives = { λ f r. Tells f r };
+
+    fn from(fault: TextFault) -> Refusal {
         Refusal {
             number: fault.number(),
-            place: place_of(fault),
+            place: Place::from(fault),
             meaning: text_meaning(fault),
         }
     }

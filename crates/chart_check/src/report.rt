@@ -1,21 +1,21 @@
 // What is said of a text: what the chart holds, or why the text is refused.
-ghost use Rattle.std.specs.Prelude.{◌≡◌, length, IfOk};
+ghost use Rattle.std.specs.Prelude.{◌≡◌, ◌↔◌, length, IfOk, IsTrue};
 ghost use Rattle.chart.specs.Plans.{plan_of};
 ghost use Rattle.chart_text.specs.Texts.{text_of};
 ghost use Rattle.chart_reader.specs.Verdicts.{verdict};
-ghost use Rattle.chart_check.specs.Reports.{Returned, Sums, Told};
+ghost use Rattle.chart_check.specs.Reports.{Sums, Told};
 
 use super::refusal::Refusal;
-use chart::drawing::Drawing;
+use chart::drawing::{Drawing, Name};
 use chart_reader::reader::read;
 use chart_writer::write;
 use std::alloc::{AllocError, Global};
 use std::fmt;
 
 // What an accepted text holds.
-#[derive(Drop)]
+#[derive(Clone, Copy)]
 pub struct Summary {
-    name: String,
+    name: Name,
     events: u8,
     automata: u8,
     states: u8,
@@ -24,7 +24,7 @@ pub struct Summary {
     written: usize,
 }
 
-#[derive(Drop)]
+#[derive(Clone, Copy)]
 pub enum Report {
     Accepted(Summary),
     // the chart is not written as it was read: what never comes, and is looked at all the same
@@ -61,42 +61,29 @@ impl fmt::Display for Report {
     }
 }
 
-// Whether the drawing is written as the text, into a buffer that is as long.
-fn comes_back(drawing: &Drawing, text: &[u8], out: &mut [u8]) -> bool
-    ensures { Returned (text_of (plan_of drawing.now)) text.now out.old result }
+// Whether the drawing is written as the text.
+fn comes_back(heap: Global, drawing: &Drawing, text: &[u8]) -> Result<bool, AllocError>
+    ensures { IfOk result (λ same. IsTrue same ↔ (text_of (plan_of drawing.now) ≡ text.now)) }
 {
-    match write(drawing, out) {
-        Ok(count) => {
-            if count != text.len() {
-                return false;
-            }
-            &out[..] == text
+    let mut out = vec![in heap; 0u8; text.len()]?;
+    let answer = write(drawing, out.as_mut_slice());
+    Ok(answer == Ok(text.len()) && out.as_slice() == text)
+}
+
+impl Summary {
+    // What the drawing holds.
+    fn new(drawing: &Drawing, written: usize) -> Summary
+        ensures { Sums (plan_of drawing.now) written result }
+    {
+        Summary {
+            name: drawing.name,
+            events: drawing.events,
+            automata: drawing.automata.len(),
+            states: drawing.states.len(),
+            transitions: drawing.transitions.len(),
+            written,
         }
-        Err(_) => false,
     }
-}
-
-// The name as text.
-fn name_of(heap: Global, drawing: &Drawing) -> Result<String, AllocError> {
-    let mut name = String::new(heap);
-    for byte in drawing.name.bytes.as_slice() {
-        name.push(char::from(*byte))?;
-    }
-    Ok(name)
-}
-
-// What the drawing holds.
-fn summary_of(heap: Global, drawing: &Drawing, written: usize) -> Result<Summary, AllocError>
-    ensures { IfOk result (λ s. Sums (plan_of drawing.now) written s) }
-{
-    Ok(Summary {
-        name: name_of(heap, drawing)?,
-        events: drawing.events,
-        automata: drawing.automata.len(),
-        states: drawing.states.len(),
-        transitions: drawing.transitions.len(),
-        written,
-    })
 }
 
 // The text is read, and what was read is written back.
@@ -104,14 +91,11 @@ pub fn report_on(heap: Global, text: &[u8]) -> Result<Report, AllocError>
     ensures { IfOk result (λ report. Told (verdict text.now) (length text.now) report) }
 {
     match read(text) {
-        Ok(drawing) => {
-            let mut out = vec![in heap; 0u8; text.len()]?;
-            if comes_back(&drawing, text, out.as_mut_slice()) {
-                Ok(Report::Accepted(summary_of(heap, &drawing, text.len())?))
-            } else {
-                Ok(Report::Changed)
-            }
+        Ok(drawing) if comes_back(heap, &drawing, text)? => {
+            let summary = Summary::new(&drawing, text.len());
+            Ok(Report::Accepted(summary))
         }
-        Err(fault) => Ok(Report::Refused(Refusal::new(fault))),
+        Ok(_) => Ok(Report::Changed),
+        Err(fault) => Ok(Report::Refused(Refusal::from(fault))),
     }
 }

@@ -1,4 +1,3 @@
 pub mod Lists
-pub mod Rest
-pub mod Room
+pub mod Sinks
 pub mod Texts

@@ -11,18 +11,13 @@ joined_front f [] (suc i) = omega arith
 joined_front f (x ∷ xs) (suc i) =
     let h = joined_front f xs i in let a = length-append (f x) (flat_map f (take i xs)) in let b = length-append (f x) (flat_map f xs) in omega arith
 
--- one row more
-pub rows_more : {X : Type 0} (f : X → List ℕ) (xs : List X) (i : ℕ) (x : X) (w : List ℕ) → i < length xs → x ≡ get_or xs i x → w ≡ f x
-    → flat_map f (take i xs) ++ w ≡ flat_map f (take (i + 1) xs)
-rows_more f xs i x w h e q =
-    ap (λ v. flat_map f (take i xs) ++ v) q ∙ flat_map_more f [] (take i xs) x ∙ ap (λ y. flat_map f (take i xs ++ (y ∷ []))) e
-    ∙ sym (ap (flat_map f) (take_more xs i x h))
-
 -- the rows so far and one more are no longer than all
-pub rows_fit : {X : Type 0} (f : X → List ℕ) (xs : List X) (i : ℕ) (x : X) (w : List ℕ) → i < length xs → x ≡ get_or xs i x → w ≡ f x
-    → length (flat_map f (take i xs)) + length w ≤ length (flat_map f xs)
-rows_fit f xs i x w h e q =
-    let m = ap length (rows_more f xs i x w h e q) in let a = length-append (flat_map f (take i xs)) w in let p = joined_front f xs (i + 1) in omega arith
+pub rows_fit : {X : Type 0} (f : X → List ℕ) (xs : List X) (i : ℕ) (x : X) → i < length xs → x ≡ get_or xs i x
+    → length (flat_map f (take i xs)) + length (f x) ≤ length (flat_map f xs)
+rows_fit f [] i x h e = omega arith
+rows_fit f (y ∷ ys) zero x h e = omega (arith, length-append (f y) (flat_map f ys), ap (λ z. length (f z)) e)
+rows_fit f (y ∷ ys) (suc i) x h e =
+    omega (arith, rows_fit f ys i x (omega arith) e, length-append (f y) (flat_map f (take i ys)), length-append (f y) (flat_map f ys))
 
 module _ {E : Type 0} (k : Kind E) where
   list_push : (es : List E) (x : E) → list_text k es ++ (comma_at (length es) ++ k.spell x) ≡ list_text k (es ++ (x ∷ []))
@@ -40,16 +35,16 @@ module _ {E : Type 0} (k : Kind E) where
       let b = length-append (k.spell x) (flat_map (λ q. 44 ∷ q) (map k.spell xs)) in omega arith
 
   -- one element more
-  pub list_more : (xs : List E) (i : ℕ) (x : E) (w : List ℕ) → i < length xs → x ≡ get_or xs i x → w ≡ comma_at i ++ k.spell x
-      → list_text k (take i xs) ++ w ≡ list_text k (take (i + 1) xs)
-  list_more xs i x w h e q =
+  pub list_more : (xs : List E) (i : ℕ) (x : E) (comma : List ℕ) → i < length xs → x ≡ get_or xs i x → comma ≡ comma_at i
+      → list_text k (take i xs) ++ (comma ++ k.spell x) ≡ list_text k (take (i + 1) xs)
+  list_more xs i x comma h e q =
       let l = length-take-le i xs (omega arith) in
-      ap (λ v. list_text k (take i xs) ++ v) q ∙ ap (λ n. list_text k (take i xs) ++ (comma_at n ++ k.spell x)) (sym l) ∙ list_push (take i xs) x
+      ap (λ v. list_text k (take i xs) ++ (v ++ k.spell x)) (q ∙ ap comma_at (sym l)) ∙ list_push (take i xs) x
       ∙ ap (λ y. list_text k (take i xs ++ (y ∷ []))) e ∙ sym (ap (list_text k) (take_more xs i x h))
 
   -- the elements so far and one more are no longer than all
-  pub list_fits : (xs : List E) (i : ℕ) (x : E) (w : List ℕ) → i < length xs → x ≡ get_or xs i x → w ≡ comma_at i ++ k.spell x
-      → length (list_text k (take i xs)) + length w ≤ length (list_text k xs)
-  list_fits xs i x w h e q =
-      let m = ap length (list_more xs i x w h e q) in let a = length-append (list_text k (take i xs)) w in
-      let p = list_front xs (i + 1) in omega arith
+  pub list_fits : (xs all : List E) (i : ℕ) (x : E) (comma : List ℕ) → xs ≡ all → i < length xs → x ≡ get_or xs i x → comma ≡ comma_at i
+      → length (list_text k (take i xs)) + (length comma + length (k.spell x)) ≤ length (list_text k all)
+  list_fits xs all i x comma s h e q =
+      let m = ap length (list_more xs i x comma h e q) in let a = length-append (list_text k (take i xs)) (comma ++ k.spell x) in
+      let b = length-append comma (k.spell x) in let p = list_front xs (i + 1) in let t = ap (λ ys. length (list_text k ys)) s in omega arith

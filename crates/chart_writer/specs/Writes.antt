@@ -1,13 +1,9 @@
--- What it is to write bytes at the start of a buffer, and the room that they leave. Assumes nothing.
---     left_of room n             the room behind n bytes; none where they do not fit
+-- What it is to write bytes at the start of a buffer. Assumes nothing.
 --     comma_at i                 what stands before element i of a list: nothing before the first, else a comma
 --     Put bytes old n new        the buffer old with the n bytes at its start is new
 --     Unwritten bytes old new    the bytes are longer than the buffer old, and new is old
 --     Written bytes old r new    the answer r: the bytes are written, or the buffer is too short and stays as it was
-use Rattle.std.specs.Prelude.{◌≡◌, ℕ, zero, suc, ◌-◌, ◌<◌, cond, List, [], ◌∷◌, ◌++◌, length, drop, Some, None, Ok, Err, Option, Result, nat_le}
-
-abbrev pub left_of : ℕ → ℕ → Option ℕ
-left_of room n = cond (nat_le n room) (Some (room - n)) None
+use Rattle.std.specs.Prelude.{◌≡◌, ℕ, zero, suc, ◌<◌, List, [], ◌∷◌, ◌++◌, length, drop, Ok, Err, Result}
 
 abbrev pub comma_at : ℕ → List ℕ
 comma_at zero = []

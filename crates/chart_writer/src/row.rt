@@ -1,111 +1,62 @@
-// Automata, states and transitions as the lines that they are written in.
-ghost use Rattle.std.specs.Prelude.{◌≡◌, ℕ, List};
-ghost use Rattle.std.specs.List.{flat_map};
-ghost use Rattle.chart.specs.Plans.{transition_plan};
-ghost use Rattle.chart_text.specs.Texts.{automaton_text, state_text, transition_text};
+// Automata, states, transitions and the whole drawing as the lines that they are written in.
+ghost use Rattle.chart.specs.Plans.{plan_of, transition_plan};
+ghost use Rattle.chart_text.specs.Texts.{automaton_text, state_text, transition_text, text_of};
 
-use super::spell::{Line, Spell};
-use super::value::Single;
-use chart::drawing::{
-    Automaton, MOST_ACTIONS, MOST_DETERMINATORS, MOST_RESTRICTIONS, MOST_TERMS, Parent, State,
-    Term, Transition,
-};
-use chart::id::{AutomatonId, EventId, StateId};
+use super::fault::WriteFault;
+use super::sink::Sink;
+use super::spell::{Line, Rows, Spell};
+use chart::drawing::{Automaton, Drawing, State, Transition};
+use chart_text::count::Natural;
 use chart_text::line::Key;
-use fixed::array_vec::ArrayVec;
+use format::value::Single;
 
-// What is written as lines of its own.
-pub(crate) trait Row {
-    type Parts: Spell + Drop;
+impl Spell for Automaton {
+    ghost spelling = { automaton_text };
 
-    ghost text: { Self → List ℕ };
-
-    // Its lines.
-    fn parts(&self) -> Self::Parts
-        ensures { Self.Parts.Spell.spelling result ≡ text self.now };
-}
-
-impl Row for Automaton {
-    type Parts = (Line<Single<Parent>>, Line<Single<StateId>>);
-
-    ghost text = { automaton_text };
-
-    fn parts(&self) -> Self::Parts {
-        (
-            Line(Key::Under, Single(self.parent)),
-            Line(Key::First, Single(self.initial)),
-        )
+    fn spell<S: Sink>(&self, sink: &mut S) -> Result<(), WriteFault> {
+        Line(Key::Under, Single { item: self.parent }).spell(sink)?;
+        Line(Key::First, Single { item: self.initial }).spell(sink)
     }
 }
 
-impl Row for State {
-    type Parts = Line<Single<AutomatonId>>;
+impl Spell for State {
+    ghost spelling = { state_text };
 
-    ghost text = { state_text };
-
-    fn parts(&self) -> Self::Parts {
-        Line(Key::In, Single(self.automaton))
+    fn spell<S: Sink>(&self, sink: &mut S) -> Result<(), WriteFault> {
+        let item = self.automaton;
+        Line(Key::In, Single { item }).spell(sink)
     }
 }
 
-// The lines of a transition: where it comes from and its trigger, what it asks and raises, and where it goes.
-type TransitionLines = (
-    Line<Single<StateId>>,
-    (
-        Line<ArrayVec<StateId, MOST_RESTRICTIONS>>,
-        (Line<Single<EventId>>, ReactionLines),
-    ),
-);
+impl Spell for Transition {
+    ghost spelling = { λ t. transition_text (transition_plan t) };
 
-type ReactionLines = (
-    Line<ArrayVec<Term, MOST_TERMS>>,
-    (Line<ArrayVec<EventId, MOST_ACTIONS>>, TargetLines),
-);
-
-type TargetLines = (
-    Line<Single<StateId>>,
-    Line<ArrayVec<StateId, MOST_DETERMINATORS>>,
-);
-
-impl Row for Transition {
-    type Parts = TransitionLines;
-
-    ghost text = { λ t. transition_text (transition_plan t) };
-
-    fn parts(&self) -> Self::Parts {
-        let from = Line(Key::From, Single(self.source));
-        let with = Line(Key::With, self.source_restriction);
-        let on = Line(Key::On, Single(self.trigger));
-        let guard = Line(Key::If, self.guard);
-        let actions = Line(Key::Do, self.actions);
-        let to = Line(Key::To, Single(self.target));
-        let into = Line(Key::Into, self.target_determinator);
-        (from, (with, (on, (guard, (actions, (to, into))))))
+    fn spell<S: Sink>(&self, sink: &mut S) -> Result<(), WriteFault> {
+        Line(Key::From, Single { item: self.source }).spell(sink)?;
+        Line(Key::With, self.source_restriction).spell(sink)?;
+        Line(Key::On, Single { item: self.trigger }).spell(sink)?;
+        Line(Key::If, self.guard).spell(sink)?;
+        Line(Key::Do, self.actions).spell(sink)?;
+        Line(Key::To, Single { item: self.target }).spell(sink)?;
+        Line(Key::Into, self.target_determinator).spell(sink)
     }
 }
 
-// Rows one behind the other.
-#[derive(Drop)]
-pub(crate) struct Rows<'a, R>(pub(crate) &'a [R]);
+impl Spell for Drawing {
+    ghost spelling = { λ d. text_of (plan_of d) };
 
-impl<'a, R: Row> Spell for Rows<'a, R> {
-    ghost spelling = { λ s. flat_map R.Row.text s.0.now };
-
-    fn room_behind(&self, room: usize) -> Option<usize> {
-        let rows = self.0;
-        let mut left = room;
-        for row in rows {
-            left = row.parts().room_behind(left)?;
-        }
-        Some(left)
-    }
-
-    fn write(&self, rest: &mut [u8]) -> usize {
-        let rows = self.0;
-        let mut at = 0;
-        for row in rows {
-            at += row.parts().write(&mut rest[at..]);
-        }
-        at
+    fn spell<S: Sink>(&self, sink: &mut S) -> Result<(), WriteFault> {
+        Line(Key::Chart, self.name).spell(sink)?;
+        let events = Natural(self.events);
+        Line(Key::Events, Single { item: events }).spell(sink)?;
+        let automata = Natural(self.automata.len());
+        Line(Key::Automata, Single { item: automata }).spell(sink)?;
+        let states = Natural(self.states.len());
+        Line(Key::States, Single { item: states }).spell(sink)?;
+        let transitions = Natural(self.transitions.len());
+        Line(Key::Transitions, Single { item: transitions }).spell(sink)?;
+        Rows(self.automata.as_slice()).spell(sink)?;
+        Rows(self.states.as_slice()).spell(sink)?;
+        Rows(self.transitions.as_slice()).spell(sink)
     }
 }

@@ -1,56 +1,50 @@
-// The value of a line: one element, or a list of them.
+// The value of a line: a name, one element, or a list of them.
 ghost use Rattle.std.specs.Prelude.{◌≡◌};
 ghost use Rattle.fixed.specs.Items.{items};
 ghost use Rattle.format.specs.Elements.{list_text};
 ghost use Rattle.chart_writer.specs.Writes.{comma_at};
 
-use super::spell::{Bytes, Spell, past, put};
+use super::fault::WriteFault;
+use super::sink::Sink;
+use super::spell::Spell;
+use chart::drawing::Name;
 use fixed::array_vec::ArrayVec;
 use format::element::Element;
+use format::value::Single;
 
-// One element.
-#[derive(Drop)]
-pub(crate) struct Single<E>(pub(crate) E);
+impl Spell for Name {
+    ghost spelling = { λ n. items n.bytes };
 
-impl<E: Element> Spell for Single<E> {
-    ghost spelling = { λ s. E.Element.kind.spell s.0 };
-
-    fn room_behind(&self, room: usize) -> Option<usize> {
-        past(room, self.0.letters().as_slice())
-    }
-
-    fn write(&self, rest: &mut [u8]) -> usize {
-        put(rest, self.0.letters().as_slice())
+    fn spell<S: Sink>(&self, sink: &mut S) -> Result<(), WriteFault> {
+        sink.put(self.bytes.as_slice())
     }
 }
 
-// An element of a list, with what stands before it.
-fn placed<E: Element>(index: usize, item: E) -> (Bytes<'static>, Single<E>)
-    ensures comma { result.0.0.now ≡ comma_at index }
-    ensures element { result.1.0 ≡ item }
-{
-    let comma: &'static [u8] = if index == 0 { b"" } else { b"," };
-    (Bytes(comma), Single(item))
+impl<E: Element> Spell for Single<E> {
+    ghost spelling = { λ s. E.kind.spell s.item };
+
+    fn spell<S: Sink>(&self, sink: &mut S) -> Result<(), WriteFault> {
+        sink.put(self.item.letters().as_slice())
+    }
 }
 
 impl<E: Element, const N: usize> Spell for ArrayVec<E, N> {
-    ghost spelling = { λ l. list_text E.Element.kind (items l) };
+    ghost spelling = { λ l. list_text E.kind (items l) };
 
-    fn room_behind(&self, room: usize) -> Option<usize> {
+    #[tactic(auto, using(crate::proofs::Lists::list_fits))]
+    fn spell<S: Sink>(&self, sink: &mut S) -> Result<(), WriteFault> {
         let list = self.as_slice();
-        let mut left = room;
         for (index, item) in list.iter().enumerate() {
-            left = placed(index, *item).room_behind(left)?;
+            sink.put(comma(index))?;
+            Single { item: *item }.spell(sink)?;
         }
-        Some(left)
+        Ok(())
     }
+}
 
-    fn write(&self, rest: &mut [u8]) -> usize {
-        let list = self.as_slice();
-        let mut at = 0;
-        for (index, item) in list.iter().enumerate() {
-            at += placed(index, *item).write(&mut rest[at..]);
-        }
-        at
-    }
+// What stands before an element of a list.
+fn comma(index: usize) -> &'static [u8]
+    ensures { result.now ≡ comma_at index }
+{
+    if index == 0 { b"" } else { b"," }
 }

@@ -1,7 +1,9 @@
 // Every byte in places where only a few may stand, and ends of lines that are not a line feed alone.
-use super::text::{Piece, WORKED};
+use super::text::WORKED;
 use super::verdict::Verdict::{Accepted, Refused};
-use super::verdict::{Verdict, hold_one, hold_pieces, judged};
+use super::verdict::{Case, Verdict, hold_one, judged};
+use std::alloc::Global;
+use std::process::Abort;
 use std::test::Fail;
 
 // A line feed ends the name, so that the next line is empty.
@@ -33,65 +35,55 @@ fn at_the_end_of_a_list(byte: u8) -> Verdict {
     }
 }
 
+// Line `number` of the worked chart as the byte with what stands before and behind it.
+fn hold_byte(
+    rt: &impl Abort,
+    heap: Global,
+    number: u16,
+    front: &[u8],
+    byte: u8,
+    rest: &[u8],
+    expected: Verdict,
+) -> Result<(), Fail> {
+    let mut line = Vec::new(heap);
+    line.extend_from_slice(front)?;
+    line.push(byte)?;
+    line.extend_from_slice(rest)?;
+    hold_one(rt, heap, WORKED, Case(number, line.as_slice(), expected))
+}
+
 #[test]
 fn each_byte_stands_only_where_it_may(rt: HostRuntime) -> Result<(), Fail> {
-    let heap = rt.alloc();
     for byte in 0..=255u8 {
-        hold_one(
-            &rt,
-            heap,
-            WORKED,
-            1,
-            &[b'c', b'h', b'a', b'r', b't', b'=', b'r', byte],
-            at_the_end_of_the_name(byte),
-        )?;
-        hold_one(
-            &rt,
-            heap,
-            WORKED,
-            2,
-            &[byte, b'e', b'v', b'e', b'n', b't', b's', b'=', b'3'],
-            Refused(4, 2, None),
-        )?;
-        hold_one(
-            &rt,
-            heap,
-            WORKED,
-            31,
-            &[b'i', b'n', b't', b'o', b'=', byte],
-            as_the_only_state(byte),
-        )?;
-        hold_one(
-            &rt,
-            heap,
-            WORKED,
-            24,
-            &[b'i', b'n', b't', b'o', b'=', b'2', b',', b'4', byte],
-            at_the_end_of_a_list(byte),
-        )?;
+        let held = |number: u16, front: &[u8], rest: &[u8], expected: Verdict| {
+            hold_byte(&rt, rt.alloc(), number, front, byte, rest, expected)
+        };
+        held(1, b"chart=r", b"", at_the_end_of_the_name(byte))?;
+        held(2, b"", b"events=3", Refused(4, 2, None))?;
+        held(31, b"into=", b"", as_the_only_state(byte))?;
+        held(24, b"into=2,4", b"", at_the_end_of_a_list(byte))?;
     }
     Ok(())
 }
 
 #[test]
 fn a_carriage_return_belongs_to_the_last_element(rt: HostRuntime) -> Result<(), Fail> {
-    let mut line = 1u16;
-    for (i, byte) in WORKED.iter().enumerate() {
-        if *byte == b'\n' {
-            let last = if line == 24 { 1 } else { 0 };
-            let pieces = [
-                Piece(1, &WORKED[0..i]),
-                Piece(1, b"\r"),
-                Piece(1, &WORKED[i..]),
-            ];
-            hold_pieces(&rt, rt.alloc(), &pieces, Refused(5, line, Some(last)))?;
-            line = line.wrapping_add(1);
-        }
+    for (line, number) in WORKED.split(|byte| *byte == b'\n').zip(1..46) {
+        let last = if number == 24 { 1 } else { 0 };
+        hold_byte(
+            &rt,
+            rt.alloc(),
+            number,
+            line,
+            b'\r',
+            b"",
+            Refused(5, number, Some(last)),
+        )?;
     }
     Ok(())
 }
 
-static ENDS_AND_MARKS: [(&[u8], Verdict); 5] = [
+static ENDS_AND_MARKS: &[(&[u8], Verdict)] = &[
     (b"chart=rower\revents=3\rautomata=3\r", Refused(2, 1, None)),
     (
         b"chart=rower\r\nevents=3\r\nautomata=3\r\n",
@@ -109,7 +101,7 @@ static ENDS_AND_MARKS: [(&[u8], Verdict); 5] = [
 fn a_line_feed_alone_ends_a_line_and_no_mark_stands_before_the_first(
     rt: HostRuntime,
 ) -> Result<(), Fail> {
-    for (text, expected) in ENDS_AND_MARKS.iter() {
+    for (text, expected) in ENDS_AND_MARKS {
         judged(&rt, text, *expected)?;
     }
     Ok(())

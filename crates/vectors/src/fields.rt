@@ -5,7 +5,7 @@ use chart::id::{AutomatonId, ConditionId, EventId, StateId};
 use chart_reader::reader::read;
 use std::test::Fail;
 
-static AUTOMATA: [Automaton; 3] = [
+static AUTOMATA: &[Automaton] = &[
     Automaton {
         parent: Parent::Top,
         initial: StateId(0),
@@ -20,7 +20,7 @@ static AUTOMATA: [Automaton; 3] = [
     },
 ];
 
-static STATES: [State; 6] = [
+static STATES: &[State] = &[
     State {
         automaton: AutomatonId(0),
     },
@@ -46,8 +46,8 @@ fn the_worked_chart_has_3_events_3_automata_and_6_states(rt: HostRuntime) -> Res
     let drawing = read(WORKED)?;
     assert_eq!(rt; drawing.name.bytes.as_slice(), b"rower".as_slice());
     assert_eq!(rt; drawing.events, 3);
-    assert_eq!(rt; drawing.automata.as_slice(), AUTOMATA.as_slice());
-    assert_eq!(rt; drawing.states.as_slice(), STATES.as_slice());
+    assert_eq!(rt; drawing.automata.as_slice(), AUTOMATA);
+    assert_eq!(rt; drawing.states.as_slice(), STATES);
     Ok(())
 }
 

@@ -4,7 +4,7 @@ use super::verdict::Verdict::{Accepted, Refused};
 use super::verdict::{Case, hold};
 use std::test::Fail;
 
-static ELEMENTS: [Case; 15] = [
+static ELEMENTS: &[Case] = &[
     Case(19, b"with=3", Accepted),
     Case(19, b"with=0,5", Accepted),
     Case(19, b"with=,", Refused(5, 19, Some(0))),
@@ -26,10 +26,10 @@ static ELEMENTS: [Case; 15] = [
 fn a_list_is_split_at_commas_and_none_of_its_elements_is_empty(
     rt: HostRuntime,
 ) -> Result<(), Fail> {
-    hold(&rt, rt.alloc(), WORKED, &ELEMENTS)
+    hold(&rt, rt.alloc(), WORKED, ELEMENTS)
 }
 
-static ASCENTS: [Case; 12] = [
+static ASCENTS: &[Case] = &[
     Case(19, b"with=0,1,2,3,4,5", Accepted),
     Case(19, b"with=1,1", Refused(5, 19, Some(1))),
     Case(19, b"with=2,1", Refused(5, 19, Some(1))),
@@ -48,10 +48,10 @@ static ASCENTS: [Case; 12] = [
 fn lists_of_states_ascend_and_lists_of_events_and_terms_need_not(
     rt: HostRuntime,
 ) -> Result<(), Fail> {
-    hold(&rt, rt.alloc(), WORKED, &ASCENTS)
+    hold(&rt, rt.alloc(), WORKED, ASCENTS)
 }
 
-static TERMS: [Case; 22] = [
+static TERMS: &[Case] = &[
     Case(21, b"if=s0,n5,c31,d0", Accepted),
     Case(21, b"if=s5", Accepted),
     Case(21, b"if=s6", Refused(6, 21, Some(0))),
@@ -78,10 +78,10 @@ static TERMS: [Case; 22] = [
 
 #[test]
 fn a_term_is_a_letter_and_a_state_or_a_condition(rt: HostRuntime) -> Result<(), Fail> {
-    hold(&rt, rt.alloc(), WORKED, &TERMS)
+    hold(&rt, rt.alloc(), WORKED, TERMS)
 }
 
-static BEFORE_RANGE: [Case; 14] = [
+static BEFORE_RANGE: &[Case] = &[
     Case(22, b"do=9,x", Refused(5, 22, Some(1))),
     Case(22, b"do=9,1", Refused(6, 22, Some(0))),
     Case(22, b"do=1,9", Refused(6, 22, Some(1))),
@@ -100,10 +100,10 @@ static BEFORE_RANGE: [Case; 14] = [
 
 #[test]
 fn every_element_is_tried_for_form_before_any_is_for_range(rt: HostRuntime) -> Result<(), Fail> {
-    hold(&rt, rt.alloc(), WORKED, &BEFORE_RANGE)
+    hold(&rt, rt.alloc(), WORKED, BEFORE_RANGE)
 }
 
-static TOO_MANY: [Case; 12] = [
+static TOO_MANY: &[Case] = &[
     Case(19, b"with=0,1,2,3,4,5,6,7", Refused(6, 19, Some(6))),
     Case(19, b"with=0,1,2,3,4,5,6,7,8", Refused(5, 19, Some(8))),
     Case(19, b"with=0,1,2,3,4,5,6,7,x", Refused(5, 19, Some(8))),
@@ -132,5 +132,5 @@ static TOO_MANY: [Case; 12] = [
 
 #[test]
 fn an_element_too_many_is_a_matter_of_form(rt: HostRuntime) -> Result<(), Fail> {
-    hold(&rt, rt.alloc(), WORKED, &TOO_MANY)
+    hold(&rt, rt.alloc(), WORKED, TOO_MANY)
 }

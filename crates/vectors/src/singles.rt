@@ -4,7 +4,7 @@ use super::verdict::Verdict::{Accepted, Refused};
 use super::verdict::{Case, hold};
 use std::test::Fail;
 
-static NAMES: [Case; 14] = [
+static NAMES: &[Case] = &[
     Case(1, b"chart=a", Accepted),
     Case(1, b"chart=_", Accepted),
     Case(1, b"chart=0", Accepted),
@@ -23,10 +23,10 @@ static NAMES: [Case; 14] = [
 
 #[test]
 fn a_name_is_1_to_16_small_letters_digits_and_underscores(rt: HostRuntime) -> Result<(), Fail> {
-    hold(&rt, rt.alloc(), WORKED, &NAMES)
+    hold(&rt, rt.alloc(), WORKED, NAMES)
 }
 
-static NUMBERS: [Case; 16] = [
+static NUMBERS: &[Case] = &[
     Case(7, b"first=5", Accepted),
     Case(7, b"first=", Refused(5, 7, Some(0))),
     Case(7, b"first=00", Refused(5, 7, Some(0))),
@@ -47,10 +47,10 @@ static NUMBERS: [Case; 16] = [
 
 #[test]
 fn a_number_is_one_or_two_digits_with_no_leading_zero(rt: HostRuntime) -> Result<(), Fail> {
-    hold(&rt, rt.alloc(), WORKED, &NUMBERS)
+    hold(&rt, rt.alloc(), WORKED, NUMBERS)
 }
 
-static PAIRS: [Case; 12] = [
+static PAIRS: &[Case] = &[
     Case(2, b"events=3,3", Refused(5, 2, Some(0))),
     Case(3, b"automata=3,3", Refused(5, 3, Some(0))),
     Case(4, b"states=6,6", Refused(5, 4, Some(0))),
@@ -67,10 +67,10 @@ static PAIRS: [Case; 12] = [
 
 #[test]
 fn a_single_value_is_not_split_at_commas(rt: HostRuntime) -> Result<(), Fail> {
-    hold(&rt, rt.alloc(), WORKED, &PAIRS)
+    hold(&rt, rt.alloc(), WORKED, PAIRS)
 }
 
-static PARENTS: [Case; 13] = [
+static PARENTS: &[Case] = &[
     Case(6, b"under=0", Accepted),
     Case(8, b"under=top", Accepted),
     Case(8, b"under=5", Accepted),
@@ -88,10 +88,10 @@ static PARENTS: [Case; 13] = [
 
 #[test]
 fn a_parent_is_top_or_a_state_and_the_tree_is_not_asked_for(rt: HostRuntime) -> Result<(), Fail> {
-    hold(&rt, rt.alloc(), WORKED, &PARENTS)
+    hold(&rt, rt.alloc(), WORKED, PARENTS)
 }
 
-static COUNTS: [Case; 24] = [
+static COUNTS: &[Case] = &[
     Case(2, b"events=64", Accepted),
     Case(2, b"events=65", Refused(6, 2, Some(0))),
     Case(2, b"events=99", Refused(6, 2, Some(0))),
@@ -120,11 +120,11 @@ static COUNTS: [Case; 24] = [
 
 #[test]
 fn counts_and_numbers_keep_to_their_limits(rt: HostRuntime) -> Result<(), Fail> {
-    hold(&rt, rt.alloc(), WORKED, &COUNTS)
+    hold(&rt, rt.alloc(), WORKED, COUNTS)
 }
 
 // A count that does not fit the rows is noticed where the first row is not as it says.
-static MISCOUNTS: [Case; 10] = [
+static MISCOUNTS: &[Case] = &[
     Case(2, b"events=1", Refused(6, 27, Some(0))),
     Case(2, b"events=2", Refused(6, 36, Some(0))),
     Case(3, b"automata=2", Refused(4, 10, None)),
@@ -139,5 +139,5 @@ static MISCOUNTS: [Case; 10] = [
 
 #[test]
 fn a_wrong_count_is_refused_where_the_rows_differ(rt: HostRuntime) -> Result<(), Fail> {
-    hold(&rt, rt.alloc(), WORKED, &MISCOUNTS)
+    hold(&rt, rt.alloc(), WORKED, MISCOUNTS)
 }

@@ -4,7 +4,7 @@ use super::verdict::Verdict::{Accepted, Refused};
 use super::verdict::{Case, hold, hold_one, hold_pieces, judged};
 use std::test::Fail;
 
-static LEAST_CASES: [Case; 6] = [
+static LEAST_CASES: &[Case] = &[
     Case(1, b"chart=z", Accepted),
     Case(2, b"events=64", Accepted),
     Case(3, b"automata=0", Refused(6, 3, Some(0))),
@@ -16,7 +16,7 @@ static LEAST_CASES: [Case; 6] = [
 #[test]
 fn a_chart_has_at_least_one_event_one_automaton_and_one_state(rt: HostRuntime) -> Result<(), Fail> {
     judged(&rt, LEAST, Accepted)?;
-    hold(&rt, rt.alloc(), LEAST, &LEAST_CASES)
+    hold(&rt, rt.alloc(), LEAST, LEAST_CASES)
 }
 
 const AUTOMATON: &[u8] = b"under=top\nfirst=0\n";
@@ -26,7 +26,7 @@ const STATE: &[u8] = b"in=0\n";
 const TRANSITION: &[u8] = b"from=0\nwith=\non=0\nif=\ndo=\nto=0\ninto=\n";
 
 // As much of everything as there may be: 789 lines, with the states from line 54 and the transitions from line 118 on.
-static FULL: [Piece; 4] = [
+static FULL: &[Piece] = &[
     Piece(
         1,
         b"chart=a23456789_bcdefg\nevents=64\nautomata=24\nstates=64\ntransitions=96\n",
@@ -36,7 +36,7 @@ static FULL: [Piece; 4] = [
     Piece(96, TRANSITION),
 ];
 
-static FULL_CASES: [Case; 40] = [
+static FULL_CASES: &[Case] = &[
     Case(2, b"events=65", Refused(6, 2, Some(0))),
     Case(3, b"automata=25", Refused(6, 3, Some(0))),
     Case(4, b"states=65", Refused(6, 4, Some(0))),
@@ -109,9 +109,9 @@ static FULL_CASES: [Case; 40] = [
 
 #[test]
 fn a_chart_may_be_full_and_every_number_reach_its_limit(rt: HostRuntime) -> Result<(), Fail> {
-    let text = assembled(rt.alloc(), &FULL)?;
+    let text = assembled(rt.alloc(), FULL)?;
     judged(&rt, text.as_slice(), Accepted)?;
-    hold(&rt, rt.alloc(), text.as_slice(), &FULL_CASES)
+    hold(&rt, rt.alloc(), text.as_slice(), FULL_CASES)
 }
 
 // A transition of 188 bytes, all its lists full, and one of 131 bytes.
@@ -125,7 +125,7 @@ do=63,63,63,63,63,63,63,63\nto=0\n\
 into=40,41,42,43,44,45,46,47,48,49,50,51,52,53,54,55,56,57,58,59,60,61,62,63\n";
 
 // A text of 16,384 bytes: 57, 432, 320, 14,852, 131 and 592.
-static LARGEST: [Piece; 6] = [
+static LARGEST: &[Piece] = &[
     Piece(
         1,
         b"chart=abc\nevents=64\nautomata=24\nstates=64\ntransitions=96\n",
@@ -141,17 +141,11 @@ static LARGEST: [Piece; 6] = [
 fn a_chart_of_16384_bytes_is_read_and_one_byte_more_is_too_long(
     rt: HostRuntime,
 ) -> Result<(), Fail> {
-    let text = assembled(rt.alloc(), &LARGEST)?;
+    let text = assembled(rt.alloc(), LARGEST)?;
     assert_eq!(rt; text.len(), 16384);
     judged(&rt, text.as_slice(), Accepted)?;
-    hold_one(
-        &rt,
-        rt.alloc(),
-        text.as_slice(),
-        1,
-        b"chart=abcd",
-        Refused(1, 0, None),
-    )
+    let longer = Case(1, b"chart=abcd", Refused(1, 0, None));
+    hold_one(&rt, rt.alloc(), text.as_slice(), longer)
 }
 
 #[test]

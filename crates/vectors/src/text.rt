@@ -39,14 +39,12 @@ pub fn replaced(
     other: &[u8],
 ) -> Result<Vec<u8>, AllocError> {
     let mut result = Vec::new(heap);
-    let mut line = 1u16;
-    for byte in text {
-        if *byte == b'\n' {
-            result.extend_from_slice(if line == number { other } else { b"" })?;
-            line = line.wrapping_add(1);
-        }
-        if *byte == b'\n' || line != number {
-            result.push(*byte)?;
+    for (line, at) in text.split_inclusive(|byte| *byte == b'\n').zip(1u16..) {
+        if at == number {
+            result.extend_from_slice(other)?;
+            result.push(b'\n')?;
+        } else {
+            result.extend_from_slice(line)?;
         }
     }
     Ok(result)

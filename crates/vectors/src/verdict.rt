@@ -1,7 +1,7 @@
 // What is to become of a text, and tables of such expectations.
 use super::text::{Piece, assembled, replaced};
 use chart::drawing::Drawing;
-use chart_reader::reader::read;
+use chart_reader::reader::{MOST_TEXT_BYTES, read};
 use chart_writer::write;
 use std::alloc::Global;
 use std::process::Abort;
@@ -14,28 +14,21 @@ pub enum Verdict {
     // read, and written back in another way: what is never to be
     Changed,
     // the number, the line and the element of the refusal
+    // kept: as numbers, since the cases name refusals by the numbers that the format gives them
     Refused(u8, u16, Option<u8>),
 }
 
 // Whether the drawing is written as this text.
 fn comes_back(drawing: &Drawing, text: &[u8]) -> bool {
-    let mut out = [0u8; 16384];
-    match write(drawing, &mut out) {
-        Ok(len) => len == text.len() && out.starts_with(text),
-        Err(_) => false,
-    }
+    let mut out = [0u8; MOST_TEXT_BYTES];
+    write(drawing, &mut out) == Ok(text.len()) && out.starts_with(text)
 }
 
 // What becomes of a text.
 pub fn verdict_on(text: &[u8]) -> Verdict {
     match read(text) {
-        Ok(drawing) => {
-            if comes_back(&drawing, text) {
-                Verdict::Accepted
-            } else {
-                Verdict::Changed
-            }
-        }
+        Ok(drawing) if comes_back(&drawing, text) => Verdict::Accepted,
+        Ok(_) => Verdict::Changed,
         Err(fault) => Verdict::Refused(fault.number(), fault.line(), fault.element()),
     }
 }
@@ -59,17 +52,11 @@ pub fn hold_pieces(
 
 // A line of a text, counted from 1; another in its place; and what is to become of the text then.
 #[derive(Clone, Copy)]
-pub struct Case(pub u16, pub &'static [u8], pub Verdict);
+pub struct Case<'a>(pub u16, pub &'a [u8], pub Verdict);
 
 // One line of the text in another way than it stands there.
-pub fn hold_one(
-    rt: &impl Abort,
-    heap: Global,
-    text: &[u8],
-    number: u16,
-    line: &[u8],
-    expected: Verdict,
-) -> Result<(), Fail> {
+pub fn hold_one(rt: &impl Abort, heap: Global, text: &[u8], case: Case) -> Result<(), Fail> {
+    let Case(number, line, expected) = case;
     let changed = replaced(heap, text, number, line)?;
     assert!(rt; changed.as_slice() != text);
     assert_eq!(rt;
@@ -83,8 +70,7 @@ pub fn hold_one(
 // Each case in turn.
 pub fn hold(rt: &impl Abort, heap: Global, text: &[u8], cases: &[Case]) -> Result<(), Fail> {
     for case in cases {
-        let Case(number, line, expected) = *case;
-        hold_one(rt, heap, text, number, line, expected)?;
+        hold_one(rt, heap, text, *case)?;
     }
     Ok(())
 }

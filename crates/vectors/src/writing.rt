@@ -3,6 +3,7 @@ use super::text::WORKED;
 use chart::drawing::{Automaton, Drawing, Name, Parent, State, Term, Transition};
 use chart::id::{AutomatonId, ConditionId, EventId, StateId};
 use chart_reader::reader::read;
+use chart_writer::fault::WriteFault;
 use chart_writer::write;
 use fixed::array_vec::ArrayVec;
 use std::test::Fail;
@@ -12,10 +13,7 @@ static BLANK: [u8; 320] = [170; 320];
 // A page that was blank, after the drawing was written into its first bytes; and how many were written, or the refusal's number.
 fn written(drawing: &Drawing, room: usize) -> ([u8; 320], Result<usize, u8>) {
     let mut page = BLANK;
-    let answer = match write(drawing, &mut page[0..room.min(320)]) {
-        Ok(len) => Ok(len),
-        Err(fault) => Err(fault.number()),
-    };
+    let answer = write(drawing, &mut page[..room.min(320)]).map_err(WriteFault::number);
     (page, answer)
 }
 

@@ -1,13 +1,9 @@
--- `write`: what is written is the text of the plan. Assumes nothing.
-use Rattle.chart_writer.specs.declared.fault.WriteFault.{WriteFault}
-use Rattle.chart_writer.proofs.Texts.{written_as, text_is}
+-- `write`: the page is what the drawing is spelled as, and what stood behind. Assumes nothing.
+use Rattle.std.proofs.Common.{[], refl, rules}
 use Rattle.chart_writer.proofs.write.Goals as goal
 
 pub returns : goal.returns
 returns c =
-    written_as {F = WriteFault} c.args.out.now c.write_whole.new.out c.write_whole.result
-    (text_is c.args.drawing.now c.as_slice.result.now c.len.result c.len-2.result c.len-3.result
-    c.as_slice-2.result.now c.as_slice-3.result.now c.as_slice-4.result.now
-    c.as_slice.ensures.value c.len.ensures.value c.len-2.ensures.value c.len-3.ensures.value
-    c.as_slice-2.ensures.value c.as_slice-3.ensures.value c.as_slice-4.ensures.value)
-    c.write_whole.ensures
+    let name = c.in_ok-spell-2.ensures.bytes_are.0 in
+    let put = c.in_ok-spell-2.ensures.bytes_are.1.extends [] c.args.out.now (record { count = refl; after = refl }) in
+    record { count = put.count; after = search rules }

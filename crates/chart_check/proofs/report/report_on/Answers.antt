@@ -3,8 +3,7 @@ use Rattle.std.proofs.Common.{sym, ◌∙◌, true≢false}
 use Rattle.chart.specs.Plans.{plan_of}
 use Rattle.chart_check.proofs.report.report_on.Goals as goal
 
-pub returns-in-Ok : goal.returns-in-Ok
-returns-in-Ok c =
-    let long = c.as_mut_slice.ensures.len ∙ c.in_ok-out-in-Ok.ensures.len in
+pub returns-in-Ok-2 : goal.returns-in-Ok-2
+returns-in-Ok-2 c =
     let same = c.in-Ok.ensures.back c.args.text.now (plan_of c.in-Ok.drawing) (sym c.in-Ok.ensures.answer) in
-    absurd (true≢false (sym ((c.if-comes_back.ensures long).0 same)))
+    absurd (true≢false (sym (c.in_ok-comes_back.ensures.1 same) ∙ c.if-branch.false))
