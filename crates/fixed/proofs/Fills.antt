@@ -1,16 +1,15 @@
--- Filling places one by one. Assumes nothing.
-use Rattle.std.proofs.Common.{◌≡◌, ℕ, ◌+◌, ◌-◌, ◌<◌, ◌≤◌, min, List, [], ◌∷◌, ◌++◌, length, get_or, take, drop, Ok, Err, Result, sym, refl, ap, ◌∙◌, ⊎_elim, arith}
-use Rattle.std.proofs.lemmas.List.{append_assoc, length-append, length-drop, length-take-le, take_all, take-append-drop, take_at, take_more}
+-- Cutting a list, and filling places. Assumes nothing.
+use Rattle.std.proofs.Common.{◌≡◌, ℕ, ◌-◌, ◌≤◌, min, List, ◌++◌, length, take, drop, sym, ap, ◌∙◌, ⊎_elim, arith}
+use Rattle.std.proofs.lemmas.List.{append_assoc, length-append, length-take-le, take_all, take-append-drop, take_at}
 use Rattle.std.proofs.lemmas.Bool.{cases_lt}
-use Rattle.fixed.specs.Items.{items, most, Pushed}
-use Rattle.fixed.specs.declared.array_vec.ArrayVec.{ArrayVec}
 
--- one item more behind front
-pub fill_more : {X : Type 0} (front more list : List X) (i : ℕ) (x : X) → i < length more → x ≡ get_or more i x
-    → list ≡ front ++ take i more → list ++ (x ∷ []) ≡ front ++ take (i + 1) more
-fill_more front more list i x h r e =
-    ap (λ ys. ys ++ (x ∷ [])) e ∙ append_assoc front (take i more) (x ∷ [])
-    ∙ ap (λ ys. front ++ ys) (ap (λ y. take i more ++ (y ∷ [])) r ∙ sym (take_more more i x h))
+-- to cut at n, or at the end where that comes first, is the same
+pub cut_within : {X : Type 0} (xs : List X) (fitting n : ℕ) → fitting ≡ min (length xs) n → take fitting xs ≡ take n xs
+cut_within xs fitting n e =
+    ⊎_elim
+    (λ l. let same : fitting ≡ n = omega arith in ap (λ k. take k xs) same)
+    (λ l. take_all fitting xs (omega arith) ∙ sym (take_all n xs l))
+    (cases_lt n (length xs))
 
 -- what fits of more, behind front, is what fits of both
 pub fill_all : {X : Type 0} (m : ℕ) (front more : List X) (k : ℕ) → length front ≤ m → k ≡ min (length more) (m - length front)
@@ -23,9 +22,3 @@ fill_all m front more k l e =
     let n = length-take-le k more (omega arith) in
     sym (ap (take m) cut ∙ take_at (front ++ take k more) (drop k more) m (omega (arith, length-append front (take k more)))))
     (cases_lt (length more) (m - length front))
-
--- whichever way a push went
-pub either_way : {T : Type 0} {N : ℕ} {G : Type 0} (before : ArrayVec T N) (item : T) (after : ArrayVec T N) (r : Result (Unit {0}) T) → Pushed before item after r
-    → ((items after ≡ items before ++ (item ∷ [])) → G) → (most N ≤ length (items before) → G) → G
-either_way before item after (Ok u) p f g = f p.1
-either_way before item after (Err back) p f g = g p.0

@@ -1,13 +1,15 @@
 -- The last of a list. Assumes nothing.
-use Rattle.std.proofs.Common.{◌≡◌, ℕ, zero, suc, List, [], ◌∷◌, ◌++◌, length, get_or, Some, None, sym, refl, ap, arith}
+use Rattle.std.proofs.Common.{◌≡◌, suc, ◌-◌, List, [], ◌∷◌, ◌++◌, length, Some, refl, ap, ◌∙◌, arith}
+use Rattle.std.specs.List.{slice_get}
 use Rattle.fixed.specs.Items.{last_of}
 
-pub last_read : {E : Type 0} (xs : List E) (x : E) (n : ℕ) → length xs ≡ suc n → x ≡ get_or xs n x → Some x ≡ last_of xs
-last_read [] x n h e = absurd (omega arith)
-last_read (y ∷ []) x zero h e = ap (λ z. Some z) e
-last_read (y ∷ []) x (suc n) h e = absurd (omega arith)
-last_read (y ∷ (z ∷ r)) x zero h e = absurd (omega arith)
-last_read (y ∷ (z ∷ r)) x (suc n) h e = last_read (z ∷ r) x n (omega arith) e
+-- the last is what stands in the last place
+pub last_read : {E : Type 0} (xs : List E) → slice_get xs (length xs - 1) ≡ last_of xs
+last_read [] = refl
+last_read (x ∷ []) = refl
+last_read {E = E} (x ∷ (y ∷ r)) =
+    let n : length (x ∷ (y ∷ r)) - 1 ≡ suc (length (y ∷ r) - 1) = omega arith in
+    ap (slice_get {X = E} (x ∷ (y ∷ r))) n ∙ last_read (y ∷ r)
 
 pub last_push : {E : Type 0} (xs : List E) (x : E) → last_of (xs ++ (x ∷ [])) ≡ Some x
 last_push [] x = refl

@@ -2,6 +2,9 @@
 ghost use Rattle.std.specs.Prelude.{◌≡◌, ◌<◌, ◌≤◌, [], ◌∷◌, ◌++◌, length, take, nat_le};
 ghost use Rattle.fixed.specs.Items.{items, most, last_of, Pushed};
 
+// kept: no heap, and memory of a fixed size; the kit's own such list has a word for its length and is not Copy, and
+// with a ghost field or a model this one could not be (DECISIONS.md, "Today's forms").
+//
 // Every value means a list, `items`: what stands in the first `len` places, or in all of them if `len` is larger.
 // So there is nothing for a caller to keep true. The places behind are filler.
 #[derive(Clone, Copy, Debug)]
@@ -45,10 +48,11 @@ impl<T: Copy, const N: usize> ArrayVec<T, N> {
     }
 
     // The last item, where there is one.
+    #[tactic(auto, using(crate::proofs::Lasts::last_read))]
     pub fn last(&self) -> Option<T>
         ensures { result ≡ last_of (items self.now) }
     {
-        last_item(self.as_slice())
+        self.as_slice().last().copied()
     }
 
     // One item more, behind the others. Where there is no place left, the item comes back and the list stays.
@@ -68,11 +72,22 @@ impl<T: Copy, const N: usize> ArrayVec<T, N> {
     pub fn extend_from_slice(&mut self, more: &[T])
         ensures { items self.new ≡ take (most N) (items self.old ++ more.now) }
     {
+        let len = self.len() as usize;
         let free = N.min(u8::MAX as usize) - self.len() as usize;
-        let fitting = &more[0..more.len().min(free)];
-        for item in fitting {
-            let _ = self.push(*item);
-        }
+        let fitting = &more[..more.len().min(free)];
+        let end = len + fitting.len();
+        let places = &mut self.places[..];
+        places[len..end].copy_from_slice(fitting);
+        self.len = end as u8;
+    }
+}
+
+// The empty list, its filler the items' own default.
+impl<T: Copy + Default, const N: usize> Default for ArrayVec<T, N> {
+    ghost is_default = { λ list. items list ≡ [] };
+
+    fn default() -> Self {
+        ArrayVec::new(T::default())
     }
 }
 
@@ -81,14 +96,5 @@ fn front<T>(all: &[T], len: usize) -> &[T]
     ensures value { result.now ≡ take len all.now }
     ensures bound { (length result.now ≤ len) × (length result.now ≤ length all.now) }
 {
-    let fitting = all.len().min(len);
-    &all[0..fitting]
-}
-
-// The last item, where there is one.
-fn last_item<T: Copy>(all: &[T]) -> Option<T>
-    ensures { result ≡ last_of all.now }
-{
-    let len = all.len();
-    if len == 0 { None } else { Some(all[len - 1]) }
+    &all[..all.len().min(len)]
 }

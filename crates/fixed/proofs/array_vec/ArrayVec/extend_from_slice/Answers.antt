@@ -1,28 +1,19 @@
--- `ArrayVec::extend_from_slice`: as much is taken as fits, so no push is refused. Assumes nothing.
-use Rattle.std.proofs.Common.{◌≡◌, ◌+◌, ◌-◌, ◌++◌, length, take, ap, ◌∙◌, arith}
-use native.Mathlib.Nat.{sub-zero}
-use Rattle.std.proofs.lemmas.List.{length-append, length-take, take_all}
+-- `ArrayVec::extend_from_slice`: as much as fits stands behind the items. Assumes nothing.
+use Rattle.std.proofs.Common.{rules, ◌≡◌, ◌++◌, ◌+◌, ◌-◌, length, take, ap, ◌∙◌, arith}
+use Rattle.std.proofs.lemmas.List.{length-take}
+use Rattle.std.proofs.lemmas.Slice.{take-put_mid}
 use Rattle.fixed.specs.Items.{items, most}
-use Rattle.fixed.proofs.Fills.{either_way, fill_more, fill_all}
+use Rattle.fixed.proofs.Fills.{cut_within, fill_all}
 use Rattle.fixed.proofs.array_vec.ArrayVec.extend_from_slice.Goals as goal
-
-pub loop-item-preserved : goal.loop-item-preserved
-loop-item-preserved g c =
-    let front = items c.args.self.now in
-    let k = c.min-2.result - 0 in
-    let fitting = take k c.args.more.now in
-    let i = c.loop-item.item-index in
-    let n = ap length c.loop-item.invariant ∙ length-append front (take i fitting) in
-    let a = length-take k c.args.more.now in
-    let b = length-take i fitting in
-    either_way c.loop-item.self c.item-item.result c.push.new.self c.push.result c.push.ensures
-    (λ e. e ∙ fill_more front fitting (items c.loop-item.self) i c.item-item.result c.loop-item-test.true c.item-item.is c.loop-item.invariant)
-    (λ full. absurd (omega arith))
 
 pub returns : goal.returns
 returns g c =
-    let front = items c.args.self.now in
-    let fitting = take (c.min-2.result - 0) c.args.more.now in
-    c.loop-item.invariant
-    ∙ ap (λ ys. front ++ ys) (take_all c.loop-item.item-index fitting c.loop-item-test.false)
-    ∙ fill_all (most g.row.N) front c.args.more.now (c.min-2.result - 0) (omega arith) (omega arith)
+    let places = c.args.self.now.places in
+    let fitting = take c.min-2.result c.args.more.now in
+    let all : length places ≡ g.row.N = search rules in
+    let n = length-take c.args.self.now.len places in
+    let front : take c.len-len.result places ≡ items c.args.self.now = cut_within places c.len-len.result c.args.self.now.len (omega arith) in
+    take-put_mid c.len-len.result (c.len-len.result + length fitting - c.len-len.result) places c.copy_from_slice.new.self (c.len-len.result + length fitting) (omega arith) (omega arith)
+    ∙ ap (λ xs. xs ++ c.copy_from_slice.new.self) front
+    ∙ ap (λ ys. items c.args.self.now ++ ys) c.copy_from_slice.ensures.after
+    ∙ fill_all (most g.row.N) (items c.args.self.now) c.args.more.now c.min-2.result (omega arith) (omega arith)
