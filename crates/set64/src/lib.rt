@@ -12,6 +12,7 @@ pub struct Set64 {
 
 impl Set64 {
     // The set with no member.
+    #[tactic(auto, using(crate::proofs::Digit::bit_zero), unfolding(crate::specs::Sets::has))]
     pub fn empty() -> Self
         ensures { (n : ℕ) → has result n ≡ false }
     {
@@ -27,6 +28,7 @@ impl Set64 {
     }
 
     // The set with n too. A number above 63 changes nothing.
+    #[tactic(auto, using(crate::proofs::Digit::or_bit, crate::proofs::Digit::shifted_bit), unfolding(crate::specs::Sets::has))]
     pub fn insert(self, n: u8) -> Self
         ensures { (m : ℕ) → has result m ≡ (has self m || (nat_lt n 64 && m == n)) }
     {
@@ -53,6 +55,7 @@ impl Set64 {
     }
 
     // What is in one of the two, or in both.
+    #[tactic(auto, using(crate::proofs::Digit::or_bit), unfolding(crate::specs::Sets::has))]
     pub fn union(self, other: Set64) -> Self
         ensures { (m : ℕ) → has result m ≡ (has self m || has other m) }
     {
@@ -62,6 +65,7 @@ impl Set64 {
     }
 
     // What is in both.
+    #[tactic(auto, using(crate::proofs::Digit::and_bit), unfolding(crate::specs::Sets::has))]
     pub fn intersection(self, other: Set64) -> Self
         ensures { (m : ℕ) → has result m ≡ (has self m && has other m) }
     {
@@ -71,6 +75,7 @@ impl Set64 {
     }
 
     // What is in this one and not in the other.
+    #[tactic(auto, using(crate::proofs::Digit::without_bit), unfolding(crate::specs::Sets::has))]
     pub fn without(self, other: Set64) -> Self
         ensures { (m : ℕ) → has result m ≡ (has self m && not (has other m)) }
     {
@@ -80,6 +85,7 @@ impl Set64 {
     }
 
     // Whether the two have a member in common.
+    #[tactic(auto, using(crate::proofs::Digit::common_bit, crate::proofs::Digit::common_more), unfolding(crate::specs::Sets::has))]
     pub fn meets(self, other: Set64) -> bool
         ensures { Decides result ((m : ℕ) × (has self m ≡ true) × (has other m ≡ true)) }
     {
@@ -98,10 +104,11 @@ impl Set64 {
         ensures alike { Decides result ((n : ℕ) → has self n ≡ has other n) }
         ensures one { Decides result (self ≡ other) }
     {
-        self.word == other.word
+        self == other
     }
 
     // The least member, where there is one.
+    #[tactic(auto, using(crate::proofs::Digit::trailing_lowest, crate::proofs::Digit::bit_zero), unfolding(crate::specs::Sets::has))]
     pub fn lowest(self) -> Option<u8>
         ensures { MatchOption result ((m : ℕ) → has self m ≡ false) (λ n. (n < 64) × Least self n) }
     {
@@ -113,6 +120,7 @@ impl Set64 {
     }
 
     // How many members there are.
+    #[tactic(auto, using(crate::proofs::Members::length_members), unfolding(crate::specs::Sets::has))]
     pub fn count(self) -> u8
         ensures value { result ≡ length (members self) }
         ensures bound { result ≤ 64 }
