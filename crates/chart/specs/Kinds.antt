@@ -3,45 +3,45 @@
 --     state_kind, ..     what each is: its shape, its order in a list, its limits and its spelling
 --     Named v            a name has 1 to 16 bytes of a to z, 0 to 9 and underscore
 --     name_of v          the name that v is: bounds and bytes are its form
-use Rattle.std.specs.Prelude.{◌≡◌, ℕ, ◌≤◌, Bool, true, cond, ◌&&◌, ◌||◌, ltb, List, [], ◌∷◌, length, Some, None, Ok, Err, codes, Option, Result, ◌==◌, nat_le, nat_lt}
-use Rattle.std.specs.List.{AllByRecursion}
+use Rattle.std.specs.Prelude.{◌≡◌, ℕ, ◌≤◌, Bool, true, false, cond, ◌&&◌, ◌||◌, List, [], ◌∷◌, length, Some, None, Ok, Err, codes, Option, Result, ◌==◌, nat_le, nat_lt}
+use Rattle.std.specs.List.{list_all, AllByRecursion}
 use Rattle.std.specs.Str.{bytes_eq}
 use Rattle.std.specs.Option.{option_map}
 use Rattle.format.specs.Bytes.{number_of, spelled}
-use Rattle.format.specs.Elements.{Kind, numbered, any_order}
+use Rattle.format.specs.Elements.{Kind, number_no, number_kind, any_order}
 use Rattle.format.specs.declared.fault.ElementFault.{ElementFault}
 use Rattle.format.specs.declared.fault.ElementFault.TheVariants.{Form}
-use Rattle.chart.specs.declared.id.StateId.{StateId}
-use Rattle.chart.specs.declared.id.AutomatonId.{AutomatonId}
-use Rattle.chart.specs.declared.id.EventId.{EventId}
-use Rattle.chart.specs.declared.id.ConditionId.{ConditionId}
+use Rattle.chart.specs.Ids.{StateId}
+use Rattle.chart.specs.Ids.{AutomatonId}
+use Rattle.chart.specs.Ids.{EventId}
+use Rattle.chart.specs.Ids.{ConditionId}
 use Rattle.chart.specs.declared.drawing.Term.{Term}
 use Rattle.chart.specs.declared.drawing.Term.TheVariants.{Active, Inactive, Holds, Fails}
 use Rattle.chart.specs.declared.drawing.Parent.{Parent}
 use Rattle.chart.specs.declared.drawing.Parent.TheVariants.{Top, State}
 
 abbrev pub state_no : ℕ → StateId
-state_no n = record { 0 = n }
+state_no = number_no
 
 abbrev pub automaton_no : ℕ → AutomatonId
-automaton_no n = record { 0 = n }
+automaton_no = number_no
 
 abbrev pub event_no : ℕ → EventId
-event_no n = record { 0 = n }
+event_no = number_no
 
 abbrev pub condition_no : ℕ → ConditionId
-condition_no n = record { 0 = n }
+condition_no = number_no
 
 -- a list of states ascends strictly
 abbrev pub state_kind : Kind StateId
-state_kind = numbered state_no (λ s. s.0) (λ x y. ltb x.0 y.0) (λ limit s. ltb s.0 limit)
+state_kind = number_kind 0 true
 
 abbrev pub automaton_kind : Kind AutomatonId
-automaton_kind = numbered automaton_no (λ a. a.0) any_order (λ limit a. ltb a.0 limit)
+automaton_kind = number_kind 0 false
 
 -- events stand in any order, and may stand twice
 abbrev pub event_kind : Kind EventId
-event_kind = numbered event_no (λ e. e.0) any_order (λ limit e. ltb e.0 limit)
+event_kind = number_kind 0 false
 
 -- a term is one of four letters and a number: s and n name a state, c and d a condition
 abbrev pub term_of : ℕ → ℕ → Option Term
@@ -92,14 +92,10 @@ parent_kind = record { shape = parent_shape; after = any_order; inside = parent_
 abbrev pub is_name_byte : ℕ → Bool
 is_name_byte b = nat_le 97 b && nat_le b 122 || nat_le 48 b && nat_le b 57 || b == 95
 
-abbrev pub every : (ℕ → Bool) → List ℕ → Bool
-every f [] = true
-every f (x ∷ xs) = f x && every f xs
-
 pub record Named (v : List ℕ) : Type 0 where
   pub some : 1 ≤ length v
   pub short : length v ≤ 16
   pub plain : AllByRecursion (λ b. is_name_byte b ≡ true) v
 
 abbrev pub name_of : List ℕ → Result (List ℕ) ElementFault
-name_of v = cond (nat_le 1 (length v) && (nat_le (length v) 16 && every is_name_byte v)) (Ok v) (Err (Form 0))
+name_of v = cond (nat_le 1 (length v) && (nat_le (length v) 16 && list_all is_name_byte v)) (Ok v) (Err (Form 0))

@@ -6,8 +6,8 @@
 --     Blank d           a drawing without automata, states and transitions
 use Rattle.std.specs.Prelude.{◌≡◌, ℕ, List, [], map}
 use Rattle.fixed.specs.Items.{items}
-use Rattle.chart.specs.declared.id.StateId.{StateId}
-use Rattle.chart.specs.declared.id.EventId.{EventId}
+use Rattle.chart.specs.Ids.{StateId}
+use Rattle.chart.specs.Ids.{EventId}
 use Rattle.chart.specs.declared.drawing.Automaton.{Automaton}
 use Rattle.chart.specs.declared.drawing.State.{State}
 use Rattle.chart.specs.declared.drawing.Term.{Term}

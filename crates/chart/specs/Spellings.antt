@@ -7,8 +7,8 @@ use Rattle.std.proofs.lemmas.Slice.Eq.{bytes_eq-Decides}
 use Rattle.std.proofs.lemmas.Bool.{cases_Bool, cases_eq, eq-eqb, ne_eqb, ltb-true}
 use Rattle.format.specs.Bytes.{Free, number_of, spelled}
 use Rattle.format.specs.Elements.{Spells}
-use Rattle.format.proofs.Numbers.{number_to, number_from, spelled_free, spelled_some, spelled_short, numbered_exact}
-use Rattle.chart.specs.Kinds.{state_no, automaton_no, event_no, condition_no, under_state, state_kind, automaton_kind, event_kind, term_kind, parent_kind, term_of, lettered, term_shape, term_inside, term_text, parent_shape, parent_inside, parent_text}
+use Rattle.format.specs.Numbers.{number_to, number_from, spelled_free, spelled_some, spelled_short, number_exact}
+use Rattle.chart.specs.Kinds.{state_no, condition_no, under_state, state_kind, automaton_kind, event_kind, term_kind, parent_kind, term_of, lettered, term_shape, term_inside, term_text, parent_shape, parent_inside, parent_text}
 use Rattle.chart.specs.declared.drawing.Term.{Term}
 use Rattle.chart.specs.declared.drawing.Term.TheVariants.{Active, Inactive, Holds, Fails}
 use Rattle.chart.specs.declared.drawing.Parent.{Parent}
@@ -19,13 +19,13 @@ below : (n limit : ℕ) → limit ≤ 100 → nat_lt n limit ≡ true → n < 10
 below n limit l h = omega (arith, ltb-true n limit h)
 
 pub state_exact : Spells state_kind 2
-state_exact = numbered_exact state_no (λ s. s.0) _ _ (λ n. refl) (λ s. refl) (λ limit l s h. below s.0 limit l h)
+state_exact = number_exact 0 true
 
 pub automaton_exact : Spells automaton_kind 2
-automaton_exact = numbered_exact automaton_no (λ a. a.0) _ _ (λ n. refl) (λ a. refl) (λ limit l a h. below a.0 limit l h)
+automaton_exact = number_exact 0 false
 
 pub event_exact : Spells event_kind 2
-event_exact = numbered_exact event_no (λ e. e.0) _ _ (λ n. refl) (λ e. refl) (λ limit l e h. below e.0 limit l h)
+event_exact = number_exact 0 false
 
 -- ---- terms
 

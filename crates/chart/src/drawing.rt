@@ -1,4 +1,8 @@
 // A drawing: what a chart text says, before anybody has asked whether it makes sense as a chart.
+ghost use Rattle.std.specs.Prelude.{◌≡◌};
+ghost use Rattle.chart.specs.Kinds.{state_no};
+ghost use Rattle.chart.specs.declared.drawing.Term.TheVariants.{Active};
+
 use super::id::{AutomatonId, ConditionId, EventId, StateId};
 use fixed::array_vec::ArrayVec;
 
@@ -20,26 +24,28 @@ pub const MOST_ACTIONS: usize = 8;
 pub const MOST_DETERMINATORS: usize = 24;
 
 // A chart's name: small letters, digits and underscores.
-#[derive(Clone, Copy)]
+#[derive(Clone, Copy, Default)]
 pub struct Name {
     pub bytes: ArrayVec<u8, MOST_NAME_BYTES>,
 }
 
 // What an automaton stands under: the first under nothing, every other under a state.
-#[derive(Clone, Copy, Debug, PartialEq, Eq)]
+// kept: an Option would be no plainer, since its `None` would be written `top`.
+#[derive(Clone, Copy, Debug, Default, PartialEq, Eq)]
 pub enum Parent {
+    #[default]
     Top,
     State(StateId),
 }
 
-#[derive(Clone, Copy, Debug, PartialEq, Eq)]
+#[derive(Clone, Copy, Debug, Default, PartialEq, Eq)]
 pub struct Automaton {
     pub parent: Parent,
     // the state at which it is entered
     pub initial: StateId,
 }
 
-#[derive(Clone, Copy, Debug, PartialEq, Eq)]
+#[derive(Clone, Copy, Debug, Default, PartialEq, Eq)]
 pub struct State {
     // the automaton that it lies in
     pub automaton: AutomatonId,
@@ -54,7 +60,16 @@ pub enum Term {
     Fails(ConditionId),
 }
 
-#[derive(Clone, Copy)]
+// The term that fills a list's places behind its items.
+impl Default for Term {
+    ghost is_default = { λ term. term ≡ Active (state_no 0) };
+
+    fn default() -> Term {
+        Term::Active(StateId::new(0))
+    }
+}
+
+#[derive(Clone, Copy, Default)]
 pub struct Transition {
     pub source: StateId,
     // further states below the source that have to be active: where the transition really comes from

@@ -1,111 +1,26 @@
-// The parts of a chart as elements of a text: each reads its own bytes and writes them again.
+// Terms and parents as elements of a text: each reads its own bytes and writes them again.
 ghost use Rattle.std.specs.Prelude.{◌≡◌, ◌∷◌, codes};
 ghost use Rattle.std.specs.Str.{bytes_eq};
 ghost use Rattle.fixed.specs.Items.{items};
 ghost use Rattle.format.specs.Bytes.{spelled};
-ghost use Rattle.chart.specs.Kinds.{state_kind, automaton_kind, event_kind, term_kind, parent_kind, term_of};
-ghost use Rattle.chart.specs.Spellings.{state_exact, automaton_exact, event_exact, term_exact, parent_exact};
+ghost use Rattle.chart.specs.Kinds.{term_kind, parent_kind, term_of};
+ghost use Rattle.chart.specs.Spellings.{term_exact, parent_exact};
 
 use super::drawing::{Parent, Term};
-use super::id::{AutomatonId, ConditionId, EventId, StateId};
+use super::id::{ConditionId, StateId};
 use fixed::array_vec::ArrayVec;
 use format::bytes::{digits, number};
 use format::element::Element;
-
-impl Element for StateId {
-    ghost kind = { state_kind };
-
-    ghost wide = { 2 };
-
-    ghost exact = { state_exact };
-
-    fn letters(self) -> ArrayVec<u8, 4> {
-        digits(self.0)
-    }
-
-    fn filler() -> Self {
-        StateId(0)
-    }
-
-    fn shape_of(bytes: &[u8]) -> Option<Self> {
-        Some(StateId(number(bytes)?))
-    }
-
-    // A list of states ascends strictly.
-    fn may_follow(self, before: Self) -> bool {
-        before.0 < self.0
-    }
-
-    fn is_inside(self, limit: u8) -> bool {
-        self.0 < limit
-    }
-}
-
-impl Element for AutomatonId {
-    ghost kind = { automaton_kind };
-
-    ghost wide = { 2 };
-
-    ghost exact = { automaton_exact };
-
-    fn letters(self) -> ArrayVec<u8, 4> {
-        digits(self.0)
-    }
-
-    fn filler() -> Self {
-        AutomatonId(0)
-    }
-
-    fn shape_of(bytes: &[u8]) -> Option<Self> {
-        Some(AutomatonId(number(bytes)?))
-    }
-
-    fn may_follow(self, _before: Self) -> bool {
-        true
-    }
-
-    fn is_inside(self, limit: u8) -> bool {
-        self.0 < limit
-    }
-}
-
-impl Element for EventId {
-    ghost kind = { event_kind };
-
-    ghost wide = { 2 };
-
-    ghost exact = { event_exact };
-
-    fn letters(self) -> ArrayVec<u8, 4> {
-        digits(self.0)
-    }
-
-    fn filler() -> Self {
-        EventId(0)
-    }
-
-    fn shape_of(bytes: &[u8]) -> Option<Self> {
-        Some(EventId(number(bytes)?))
-    }
-
-    fn may_follow(self, _before: Self) -> bool {
-        true
-    }
-
-    fn is_inside(self, limit: u8) -> bool {
-        self.0 < limit
-    }
-}
 
 // The term that a letter and a number make: one of four letters, each a case.
 fn term(letter: char, number: u8) -> Option<Term>
     ensures { result ≡ term_of letter number }
 {
     match letter {
-        's' => Some(Term::Active(StateId(number))),
-        'n' => Some(Term::Inactive(StateId(number))),
-        'c' => Some(Term::Holds(ConditionId(number))),
-        'd' => Some(Term::Fails(ConditionId(number))),
+        's' => Some(Term::Active(StateId::new(number))),
+        'n' => Some(Term::Inactive(StateId::new(number))),
+        'c' => Some(Term::Holds(ConditionId::new(number))),
+        'd' => Some(Term::Fails(ConditionId::new(number))),
         _ => None,
     }
 }
@@ -124,10 +39,6 @@ impl Element for Term {
             Term::Holds(condition) => lettered(b'c', condition.0),
             Term::Fails(condition) => lettered(b'd', condition.0),
         }
-    }
-
-    fn filler() -> Self {
-        Term::Active(StateId(0))
     }
 
     fn shape_of(bytes: &[u8]) -> Option<Self> {
@@ -155,7 +66,7 @@ impl Element for Term {
 fn lettered(letter: u8, number: u8) -> ArrayVec<u8, 4>
     ensures { items result ≡ letter ∷ spelled number }
 {
-    let mut letters = ArrayVec::new(letter);
+    let mut letters = ArrayVec::default();
     let _ = letters.push(letter);
     let digits = digits(number);
     letters.extend_from_slice(digits.as_slice());
@@ -176,15 +87,12 @@ impl Element for Parent {
         }
     }
 
-    fn filler() -> Self {
-        Parent::Top
-    }
-
     fn shape_of(bytes: &[u8]) -> Option<Self> {
         if is_top(bytes) {
-            return Some(Parent::Top);
+            Some(Parent::Top)
+        } else {
+            Some(Parent::State(StateId::new(number(bytes)?)))
         }
-        Some(Parent::State(StateId(number(bytes)?)))
     }
 
     fn may_follow(self, _before: Self) -> bool {
@@ -210,7 +118,7 @@ fn is_top(bytes: &[u8]) -> bool
 fn top() -> ArrayVec<u8, 4>
     ensures { items result ≡ codes "top" }
 {
-    let mut letters = ArrayVec::new(b't');
+    let mut letters = ArrayVec::default();
     letters.extend_from_slice(b"top");
     letters
 }

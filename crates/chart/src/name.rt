@@ -1,10 +1,10 @@
 // A chart's name as the value of a line.
 ghost use Rattle.std.specs.Prelude.{◌≡◌, ℕ, List, Some, encode_utf8_all};
+ghost use Rattle.std.specs.List.{list_all};
 ghost use Rattle.fixed.specs.Items.{items};
-ghost use Rattle.chart.specs.Kinds.{is_name_byte, every, name_of};
+ghost use Rattle.chart.specs.Kinds.{is_name_byte, name_of};
 
-use super::drawing::Name;
-use fixed::array_vec::ArrayVec;
+use super::drawing::{MOST_NAME_BYTES, Name};
 use format::fault::ElementFault;
 use format::value::Value;
 use std::fmt;
@@ -18,14 +18,9 @@ fn is_name_char(byte: u8) -> bool
 
 // Whether the bytes may all stand in a name.
 fn is_plain(bytes: &[u8]) -> bool
-    ensures { result ≡ every is_name_byte bytes.now }
+    ensures { result ≡ list_all is_name_byte bytes.now }
 {
-    for byte in bytes {
-        if !is_name_char(*byte) {
-            return false;
-        }
-    }
-    true
+    bytes.iter().all(|byte| is_name_char(*byte))
 }
 
 impl Value for Name {
@@ -37,10 +32,10 @@ impl Value for Name {
 
     // A name has 1 to 16 bytes; how many there are is a matter of its form.
     fn read(_limit: u8, value: &[u8]) -> Result<Self, ElementFault> {
-        if 1 <= value.len() && value.len() <= 16 && is_plain(value) {
-            let mut bytes = ArrayVec::new(b'_');
-            bytes.extend_from_slice(value);
-            Ok(Name { bytes })
+        if 1 <= value.len() && value.len() <= MOST_NAME_BYTES && is_plain(value) {
+            let mut name = Name::default();
+            name.bytes.extend_from_slice(value);
+            Ok(name)
         } else {
             Err(ElementFault::Form { element: 0 })
         }

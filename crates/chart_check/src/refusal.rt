@@ -30,6 +30,7 @@ impl fmt::Display for Place {
 // A refusal by its number, its place and its meaning.
 #[derive(Clone, Copy)]
 pub struct Refusal {
+    // kept: the number is what whoever mends the text looks up
     number: u8,
     place: Place,
     meaning: &'static str,

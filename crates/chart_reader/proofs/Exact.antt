@@ -1,7 +1,7 @@
 -- A text is accepted just if it is the spelling of a plan within the limits. Assumes nothing.
-use Rattle.std.proofs.Common.{◌≡◌, ℕ, ◌+◌, ◌*◌, ◌<◌, ◌≤◌, Bool, true, false, ◌&&◌, ltb, leb, List, [], ◌∷◌, ◌++◌, length, Ok, sym, refl, ap, ◌∙◌, subst, ap₂, arith}
-use Rattle.std.specs.List.{flat_map, AllByRecursion}
-use Rattle.std.proofs.lemmas.Bool.{and_parts, and_from, leb-true, le-leb, ltb-true, lt-ltb}
+use Rattle.std.proofs.Common.{◌≡◌, ℕ, ◌+◌, ◌*◌, ◌<◌, ◌≤◌, Bool, true, false, ◌&&◌, leb, List, [], ◌∷◌, ◌++◌, length, Ok, sym, refl, ap, ◌∙◌, subst, ap₂, arith}
+use Rattle.std.specs.List.{flat_map, list_all, AllByRecursion}
+use Rattle.std.proofs.lemmas.Bool.{and_parts, and_from, leb-true, le-leb}
 use Rattle.format.specs.Bytes.{Free}
 use Rattle.format.specs.Elements.{and_then, Kind, Spells, GoodList, list_text}
 use Rattle.format.specs.Readers.{ended, Exact, Whole}
@@ -10,18 +10,19 @@ use Rattle.format.specs.declared.fault.TextFault.TheVariants.{Oversize}
 use Rattle.format.proofs.Laws.{field_exact, both_exact, named_exact, times_exact, whole_text}
 use Rattle.format.proofs.Lists.{if_ok, same_ok}
 use Rattle.format.proofs.Wholes.{single_whole, list_whole}
-use Rattle.chart.specs.Kinds.{state_kind, automaton_kind, event_kind, term_kind, parent_kind, is_name_byte, every, Named, name_of}
+use Rattle.chart.specs.Kinds.{state_kind, automaton_kind, event_kind, term_kind, parent_kind, is_name_byte, Named, name_of}
 use Rattle.chart.specs.Plans.{Plan, TransitionPlan}
 use Rattle.chart.specs.declared.drawing.Automaton.{Automaton}
 use Rattle.chart.specs.declared.drawing.State.{State}
+use Rattle.format.specs.Numbers.{bounds_to, bounds_from}
 use Rattle.chart.specs.Spellings.{state_exact, automaton_exact, event_exact, term_exact, parent_exact}
+use Rattle.chart_text.proofs.Counts.{positive_exact, natural_exact}
 use Rattle.chart_text.specs.Counts.{positive_no, natural_no, positive_kind, natural_kind}
 use Rattle.chart_text.specs.Keys.{key_text}
 use Rattle.chart_text.specs.Texts.{counts_of, line_text, automaton_text, state_text, transition_text, text_of, GoodAutomaton, GoodTransition, Within}
 use Rattle.chart_text.specs.declared.count.Counts.{Counts}
 use Rattle.chart_text.specs.declared.line.Key.{Key}
 use Rattle.chart_text.specs.declared.line.Key.TheVariants.{Chart, Events, Automata, States, Transitions, Under, First, In, From, With, On, If, Do, To, Into}
-use Rattle.chart_text.specs.CountsLemmas.{positive_exact, natural_exact}
 use Rattle.chart_reader.specs.Verdicts.{one, some, automaton, automaton_lines, state, state_lines, TransitionParts, transition, transition_lines, rows, PlanParts, plan, counted, drawn, due_end, Exactly, GivesBack, OneText}
 
 -- ---- the keys
@@ -62,7 +63,7 @@ key_short Into = omega arith
 
 -- ---- the lines
 
-one_exact : {E : Type 0} (k : Kind E) (wide limit : ℕ) (name : Key) → Spells k wide → wide ≤ 80 → limit ≤ 100
+pub one_exact : {E : Type 0} (k : Kind E) (wide limit : ℕ) (name : Key) → Spells k wide → wide ≤ 80 → limit ≤ 100
     → Exact (one k limit name) (λ e. k.inside limit e ≡ true) (λ e. line_text name (k.spell e))
 one_exact k wide limit name law narrow small =
     field_exact _ (λ e. k.inside limit e ≡ true) k.spell (key_text name) (single_whole k wide limit law narrow small) (key_free name) (key_short name)
@@ -74,13 +75,13 @@ some_exact k wide most limit name law fits small =
 
 -- ---- the name
 
-every_all : (f : ℕ → Bool) (v : List ℕ) → every f v ≡ true → AllByRecursion (λ b. f b ≡ true) v
+every_all : (f : ℕ → Bool) (v : List ℕ) → list_all f v ≡ true → AllByRecursion (λ b. f b ≡ true) v
 every_all f [] h = tt
-every_all f (x ∷ xs) h = let g = and_parts (f x) (every f xs) h in (g.0, every_all f xs g.1)
+every_all f (x ∷ xs) h = let g = and_parts (f x) (list_all f xs) h in (g.0, every_all f xs g.1)
 
-all_every : (f : ℕ → Bool) (v : List ℕ) → AllByRecursion (λ b. f b ≡ true) v → every f v ≡ true
+all_every : (f : ℕ → Bool) (v : List ℕ) → AllByRecursion (λ b. f b ≡ true) v → list_all f v ≡ true
 all_every f [] h = refl
-all_every f (x ∷ xs) h = and_from (f x) (every f xs) h.0 (all_every f xs h.1)
+all_every f (x ∷ xs) h = and_from (f x) (list_all f xs) h.0 (all_every f xs h.1)
 
 name_byte : (b : ℕ) → is_name_byte b ≡ true → b ≡ 10 → ⊥
 name_byte b h e = let z : ◌≡◌ {A = Bool} false true = sym (ap is_name_byte e) ∙ h in let y : ◌≡◌ {A = ℕ} 0 1 = cc in omega arith
@@ -92,14 +93,14 @@ name_free (x ∷ xs) h = (name_byte x h.0, name_free xs h.1)
 pub name_whole : Whole name_of Named (λ v. v)
 name_whole = record {
   to = λ v a h.
-      let g = if_ok (leb 1 (length v) && (leb (length v) 16 && every is_name_byte v)) (Ok v) (Form 0) a h in
-      let p = and_parts (leb 1 (length v)) (leb (length v) 16 && every is_name_byte v) g.0 in
-      let q = and_parts (leb (length v) 16) (every is_name_byte v) p.1 in
+      let g = if_ok (leb 1 (length v) && (leb (length v) 16 && list_all is_name_byte v)) (Ok v) (Form 0) a h in
+      let p = and_parts (leb 1 (length v)) (leb (length v) 16 && list_all is_name_byte v) g.0 in
+      let q = and_parts (leb (length v) 16) (list_all is_name_byte v) p.1 in
       let e = same_ok v a g.1 in
       (subst Named e (record { some = leb-true 1 (length v) p.0; short = leb-true (length v) 16 q.0; plain = every_all is_name_byte v q.1 }), e);
   from = λ v h.
-      let t = and_from (leb 1 (length v)) (leb (length v) 16 && every is_name_byte v) (le-leb 1 (length v) h.some)
-      (and_from (leb (length v) 16) (every is_name_byte v) (le-leb (length v) 16 h.short) (all_every is_name_byte v h.plain)) in
+      let t = and_from (leb 1 (length v)) (leb (length v) 16 && list_all is_name_byte v) (le-leb 1 (length v) h.some)
+      (and_from (leb (length v) 16) (list_all is_name_byte v) (le-leb (length v) 16 h.short) (all_every is_name_byte v h.plain)) in
       rw t;
   free = λ v h. name_free v h.plain;
   short = λ v h. omega (arith, h.short);
@@ -113,14 +114,14 @@ automaton_lines_exact c s =
     (both_exact 1 _ _ _ _ _ _ (one_exact parent_kind 3 c.states Under parent_exact (omega arith) s) (λ _ _.
     one_exact state_kind 2 c.states First state_exact (omega arith) s))
     (λ x h. refl) (λ a. refl)
-    (λ x h. record { parent = h.0; initial = ltb-true x.1.0 c.states h.1 })
-    (λ a h. (h.parent, lt-ltb a.initial.0 c.states h.initial))
+    (λ x h. record { parent = h.0; initial = (bounds_to 0 c.states x.1.0 h.1).1 })
+    (λ a h. (h.parent, bounds_from 0 c.states a.initial.0 (omega arith) h.initial))
 
 state_lines_exact : (c : Counts) → c.automata ≤ 100 → Exact (state_lines c) (λ s. s.automaton.0 < c.automata) state_text
 state_lines_exact c a =
     named_exact state (λ (s : State). s.automaton) _ _ _ (λ s. s.automaton.0 < c.automata)
     (one_exact automaton_kind 2 c.automata In automaton_exact (omega arith) a)
-    (λ x h. refl) (λ s. refl) (λ x h. ltb-true x.0 c.automata h) (λ s h. lt-ltb s.automaton.0 c.automata h)
+    (λ x h. refl) (λ s. refl) (λ x h. (bounds_to 0 c.automata x.0 h).1) (λ s h. bounds_from 0 c.automata s.automaton.0 (omega arith) h)
 
 abbrev transition_parts : TransitionPlan → TransitionParts
 transition_parts t = (t.source, (t.restriction, (t.trigger, (t.guard, (t.actions, (t.target, t.determinator))))))
@@ -137,21 +138,21 @@ transition_lines_exact c e s =
     some_exact state_kind 2 24 c.states Into state_exact (omega arith) s)))))))
     (λ x h. refl) (λ t. refl)
     (λ x h. record {
-      source = ltb-true x.0.0 c.states h.0;
+      source = (bounds_to 0 c.states x.0.0 h.0).1;
       restriction = h.1.0;
-      trigger = ltb-true x.1.1.0.0 c.events h.1.1.0;
+      trigger = (bounds_to 0 c.events x.1.1.0.0 h.1.1.0).1;
       guard = h.1.1.1.0;
       actions = h.1.1.1.1.0;
-      target = ltb-true x.1.1.1.1.1.0.0 c.states h.1.1.1.1.1.0;
+      target = (bounds_to 0 c.states x.1.1.1.1.1.0.0 h.1.1.1.1.1.0).1;
       determinator = h.1.1.1.1.1.1;
     })
     (λ t h. (
-      lt-ltb t.source.0 c.states h.source,
+      bounds_from 0 c.states t.source.0 (omega arith) h.source,
       (
         h.restriction,
         (
-          lt-ltb t.trigger.0 c.events h.trigger,
-          (h.guard, (h.actions, (lt-ltb t.target.0 c.states h.target, h.determinator))),
+          bounds_from 0 c.events t.trigger.0 (omega arith) h.trigger,
+          (h.guard, (h.actions, (bounds_from 0 c.states t.target.0 (omega arith) h.target, h.determinator))),
         ),
       ),
     ))
@@ -185,12 +186,6 @@ plan_parts p = (
   ),
 )
 
-positive_bounds : (low high n : ℕ) → (leb low n && ltb n high) ≡ true → (low ≤ n) × (n < high)
-positive_bounds low high n h = let g = and_parts (leb low n) (ltb n high) h in (leb-true low n g.0, ltb-true n high g.1)
-
-positive_from : (low high n : ℕ) → low ≤ n → n < high → (leb low n && ltb n high) ≡ true
-positive_from low high n l h = and_from (leb low n) (ltb n high) (le-leb low n l) (lt-ltb n high h)
-
 drawn_exact : Exact drawn Within text_of
 drawn_exact =
     named_exact plan plan_parts _ _ _ Within
@@ -199,7 +194,7 @@ drawn_exact =
     both_exact 1 _ _ _ _ _ _ (one_exact positive_kind 2 25 Automata positive_exact (omega arith) (omega arith)) (λ a ha.
     both_exact 1 _ _ _ _ _ _ (one_exact positive_kind 2 65 States positive_exact (omega arith) (omega arith)) (λ s hs.
     both_exact 1 _ _ _ _ _ _ (one_exact natural_kind 2 97 Transitions natural_exact (omega arith) (omega arith)) (λ t _.
-    rows_exact (counted e a s) t.0 (omega (arith, (positive_bounds 1 65 e.0 he).1)) (omega (arith, (positive_bounds 1 25 a.0 ha).1)) (omega (arith, (positive_bounds 1 65 s.0 hs).1))))))))
+    rows_exact (counted e a s) t.0 (omega (arith, (bounds_to 1 65 e.0 he).1)) (omega (arith, (bounds_to 1 25 a.0 ha).1)) (omega (arith, (bounds_to 1 65 s.0 hs).1))))))))
     (λ x h.
     let r = h.1.1.1.1.1 in
     let F : ℕ → ℕ → ℕ → PlanParts = λ a s t. (x.0, (x.1.0, (positive_no a, (positive_no s, (natural_no t, x.1.1.1.1.1))))) in
@@ -211,17 +206,17 @@ drawn_exact =
     let r = h.1.1.1.1.1 in
     let c : counted x.1.0 x.1.1.0 x.1.1.1.0 ≡ counts_of (plan x) =
     ap₂ (λ a s. record { events = x.1.0.0; automata = a; states = s }) (sym r.0.0) (sym r.1.0.0) in
-    let e = positive_bounds 1 65 x.1.0.0 h.1.0 in
-    let a = positive_bounds 1 25 x.1.1.0.0 h.1.1.0 in
-    let s = positive_bounds 1 65 x.1.1.1.0.0 h.1.1.1.0 in
-    let t = ltb-true x.1.1.1.1.0.0 97 h.1.1.1.1.0 in
+    let e = bounds_to 1 65 x.1.0.0 h.1.0 in
+    let a = bounds_to 1 25 x.1.1.0.0 h.1.1.0 in
+    let s = bounds_to 1 65 x.1.1.1.0.0 h.1.1.1.0 in
+    let t = bounds_to 0 97 x.1.1.1.1.0.0 h.1.1.1.1.0 in
     let la = r.0.0 in let ls = r.1.0.0 in let lt = r.1.1.0 in
     record {
       name = h.0;
       events = record { least = e.0; greatest = omega (arith, e.1) };
       automata = record { least = omega (arith, a.0); greatest = omega (arith, a.1) };
       states = record { least = omega (arith, s.0); greatest = omega (arith, s.1) };
-      transitions = record { least = omega arith; greatest = omega arith };
+      transitions = record { least = omega arith; greatest = omega (arith, t.1) };
       each_automaton = subst (λ w. AllByRecursion (GoodAutomaton w) x.1.1.1.1.1.0) c r.0.1;
       each_state = subst (λ w. AllByRecursion (λ s. s.automaton.0 < w) x.1.1.1.1.1.1.0) (sym la) r.1.0.1;
       each_transition = subst (λ w. AllByRecursion (GoodTransition w) x.1.1.1.1.1.1.1) c r.1.1.1;
@@ -229,13 +224,13 @@ drawn_exact =
     (λ p h. (
       h.name,
       (
-        positive_from 1 65 p.events h.events.least (omega (arith, h.events.greatest)),
+        bounds_from 1 65 p.events h.events.least (omega (arith, h.events.greatest)),
         (
-          positive_from 1 25 (length p.automata) h.automata.least (omega (arith, h.automata.greatest)),
+          bounds_from 1 25 (length p.automata) h.automata.least (omega (arith, h.automata.greatest)),
           (
-            positive_from 1 65 (length p.states) h.states.least (omega (arith, h.states.greatest)),
+            bounds_from 1 65 (length p.states) h.states.least (omega (arith, h.states.greatest)),
             (
-              lt-ltb (length p.transitions) 97 (omega (arith, h.transitions.greatest)),
+              bounds_from 0 97 (length p.transitions) (omega arith) (omega (arith, h.transitions.greatest)),
               ((refl, h.each_automaton), ((refl, h.each_state), (refl, h.each_transition))),
             ),
           ),

@@ -1,5 +1,6 @@
 -- Each refusal comes exactly when the format says. Assumes nothing.
 use Rattle.std.proofs.Common.{◌≡◌, ℕ, suc, ◌+◌, ◌≤◌, ◌&&◌, leb, List, [], ◌∷◌, ◌++◌, length, Some, None, Ok, Err, Option, Result, sym, refl, ap, ◌∙◌, subst, ap₂, ⊎_elim, arith}
+use Rattle.std.specs.List.{list_all}
 use Rattle.std.proofs.lemmas.Bool.{cases_Bool, leb-true, leb-false, le-leb, lt-leb}
 use Rattle.format.specs.declared.fault.ElementFault.{ElementFault}
 use Rattle.format.specs.declared.fault.ElementFault.TheVariants.{Form}
@@ -7,7 +8,7 @@ use Rattle.format.specs.declared.fault.LineFault.{LineFault}
 use Rattle.format.specs.declared.fault.TextFault.{TextFault}
 use Rattle.format.specs.declared.fault.TextFault.TheVariants.{Oversize, Line, Trailing}
 use Rattle.format.proofs.Wrongs.{fault_of, single_to, single_from, list_to, list_from, line_to, line_from}
-use Rattle.chart.specs.Kinds.{state_kind, automaton_kind, event_kind, term_kind, parent_kind, is_name_byte, every, Named, name_of}
+use Rattle.chart.specs.Kinds.{state_kind, automaton_kind, event_kind, term_kind, parent_kind, is_name_byte, Named, name_of}
 use Rattle.chart_text.specs.Counts.{positive_kind, natural_kind}
 use Rattle.chart_text.specs.Keys.{key_text}
 use Rattle.chart_text.specs.declared.count.Counts.{Counts}
@@ -36,7 +37,7 @@ name_to v e h = (
   ⊎_elim
       (λ t. none_some e (rw t at h))
       (λ f. let x : Some (Form 0) ≡ Some e = rw f at h in cc)
-      (cases_Bool (leb 1 (length v) && (leb (length v) 16 && every is_name_byte v))),
+      (cases_Bool (leb 1 (length v) && (leb (length v) 16 && list_all is_name_byte v))),
 )
 
 name_from : (v : List ℕ) (e : ElementFault) → (Named v → ⊥) × (e ≡ Form 0) → fault_of (name_of v) ≡ Some e

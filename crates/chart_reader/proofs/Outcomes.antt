@@ -15,8 +15,8 @@ use Rattle.chart.specs.Plans.{Plan}
 use Rattle.chart_text.specs.Counts.{positive_no, natural_no, positive_kind, natural_kind}
 use Rattle.chart_text.specs.Keys.{key_text}
 use Rattle.chart_text.specs.declared.count.Counts.{Counts}
-use Rattle.chart_text.specs.declared.count.Positive.{Positive}
-use Rattle.chart_text.specs.declared.count.Natural.{Natural}
+use Rattle.chart_text.specs.Counts.{Positive}
+use Rattle.chart_text.specs.Counts.{Natural}
 use Rattle.chart_text.specs.declared.line.Key.{Key}
 use Rattle.chart_text.specs.declared.line.Key.TheVariants.{Chart, Events, Automata, States, Transitions, Under, First, In, From, With, On, If, Do, To, Into}
 use Rattle.chart_reader.specs.Verdicts.{one, automaton, automaton_lines, state, state_lines, transition, transition_lines, Rows, rows, PlanParts, plan, counted, drawn, due_end, read_through}

@@ -14,9 +14,9 @@ use Rattle.format.specs.Elements.{and_then, single_of, list_of, Kind}
 use Rattle.format.specs.Readers.{Reader, field, both, times, named, ended}
 use Rattle.format.specs.declared.fault.TextFault.{TextFault}
 use Rattle.format.specs.declared.fault.TextFault.TheVariants.{Oversize}
-use Rattle.chart.specs.declared.id.StateId.{StateId}
-use Rattle.chart.specs.declared.id.AutomatonId.{AutomatonId}
-use Rattle.chart.specs.declared.id.EventId.{EventId}
+use Rattle.chart.specs.Ids.{StateId}
+use Rattle.chart.specs.Ids.{AutomatonId}
+use Rattle.chart.specs.Ids.{EventId}
 use Rattle.chart.specs.declared.drawing.Parent.{Parent}
 use Rattle.chart.specs.declared.drawing.Term.{Term}
 use Rattle.chart.specs.declared.drawing.Automaton.{Automaton}
@@ -27,8 +27,8 @@ use Rattle.chart_text.specs.Counts.{positive_kind, natural_kind}
 use Rattle.chart_text.specs.Keys.{key_text}
 use Rattle.chart_text.specs.Texts.{text_of, Within}
 use Rattle.chart_text.specs.declared.count.Counts.{Counts}
-use Rattle.chart_text.specs.declared.count.Positive.{Positive}
-use Rattle.chart_text.specs.declared.count.Natural.{Natural}
+use Rattle.chart_text.specs.Counts.{Positive}
+use Rattle.chart_text.specs.Counts.{Natural}
 use Rattle.chart_text.specs.declared.line.Key.{Key}
 use Rattle.chart_text.specs.declared.line.Key.TheVariants.{Chart, Events, Automata, States, Transitions, Under, First, In, From, With, On, If, Do, To, Into}
 

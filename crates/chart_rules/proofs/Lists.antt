@@ -4,7 +4,8 @@ use Rattle.std.specs.List.{HoldsAt, AllWithin}
 use Rattle.std.specs.Iterator.{AlwaysYields}
 use Rattle.std.proofs.lemmas.Fn.{slice_gives, fronts}
 use Rattle.std.proofs.lemmas.Bool.{both_ways, cases_Bool, or_cases, or_left, or_right, eqb-true, eq-eqb}
-use Rattle.chart.specs.declared.id.StateId.{StateId}
+use Rattle.chart.specs.Ids.{StateId}
+use Rattle.chart.specs.Kinds.{state_no}
 use Rattle.hierarchy.specs.Hierarchies.{◌∈◌, these}
 
 pub these_push : (xs : List StateId) (x : StateId) (v : ℕ) → (v ∈ these (xs ++ (x ∷ []))) ↔ ((v ∈ these xs) ⊎ (v ≡ x.0))
@@ -46,10 +47,10 @@ these_place (x ∷ xs) v m =
 pub all_are : (P : ℕ → Type 0) (r : Bool) (xs : List StateId) → MatchBool r (AllWithin (λ (s : StateId). P s.0) xs 0 (length xs)) ((k : ℕ) × (k < length xs) × HoldsAt (λ (s : StateId). P s.0 → ⊥) xs k)
     → Decides r ((v : ℕ) → v ∈ these xs → P v)
 all_are P true xs each =
-    let d : StateId = record { 0 = 0 } in
+    let d : StateId = state_no 0 in
     ((λ _ v m. let p = these_place xs v m in subst P (p.2 d) (each p.0 d (omega arith) p.1)), (λ _. refl))
 all_are P false xs one =
-    let d : StateId = record { 0 = 0 } in
+    let d : StateId = state_no 0 in
     ((λ e. absurd (both_ways false refl e)), (λ all. absurd (one.2 d (all _ (these_at xs one.0 d one.1)))))
 
 -- not in a list

@@ -3,7 +3,7 @@ use Rattle.std.proofs.Common.{◌≡◌, ℕ, ◌<◌, Bool, List, Decides, sym,
 use Rattle.std.proofs.lemmas.Bool.Decides.{Decides-like, same_from_decides}
 use Rattle.fixed.specs.Items.{items}
 use Rattle.chart.specs.declared.drawing.Transition.{Transition}
-use Rattle.chart.specs.declared.id.StateId.{StateId}
+use Rattle.chart.specs.Ids.{StateId}
 use Rattle.hierarchy.specs.Checks.{joins, well_formed, full}
 use Rattle.hierarchy.specs.Hierarchies.{Hierarchy, Proper}
 use Rattle.hierarchy.specs.Rules.{Rooted, Joins, WellFormed, Full}

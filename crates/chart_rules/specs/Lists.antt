@@ -6,7 +6,7 @@
 --     Says h t x            x is transition t of the hierarchy
 use Rattle.std.specs.Prelude.{◌≡◌, ℕ, ◌<◌, false, ◌≢◌, List}
 use Rattle.fixed.specs.Items.{items}
-use Rattle.chart.specs.declared.id.StateId.{StateId}
+use Rattle.chart.specs.Ids.{StateId}
 use Rattle.chart.specs.declared.drawing.Transition.{Transition}
 use Rattle.hierarchy.specs.Hierarchies.{Set, ◌∈◌, these, Hierarchy, Basic, Below, Orthogonal}
 

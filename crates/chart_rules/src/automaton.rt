@@ -58,7 +58,7 @@ pub fn check_automata(drawing: &Drawing) -> Result<(), ChartFault>
     ensures { result ≡ unless_broken tt (automata_fault_lem (drawn drawing.now)) }
 {
     for a in 0..drawing.automata.len().max(1) {
-        check_automaton(drawing, AutomatonId(a))?;
+        check_automaton(drawing, AutomatonId::new(a))?;
     }
     Ok(())
 }

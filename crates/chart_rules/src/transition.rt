@@ -64,7 +64,7 @@ pub fn check_transitions(outline: &Outline) -> Result<(), ChartFault>
 {
     let transitions = outline.drawing.transitions.as_slice();
     for (t, transition) in transitions.iter().enumerate() {
-        check_transition(outline, TransitionId(t as u8), transition)?;
+        check_transition(outline, TransitionId::new(t as u8), transition)?;
     }
     Ok(())
 }

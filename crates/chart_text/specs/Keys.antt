@@ -1,10 +1,13 @@
 -- The keys of a chart text, as they are written, and what a line of one borrows. Assumes nothing.
 --     key_text k         the key and the sign behind it
 --     due_key, due_value the key of a read line, and its value
---     DueGives k n x r   r is line n with the key k, its value and the rest of the text those of x, or x's fault
+--     DueGives k x l m r r is the next line of l, with the key k and the value of x, and the lines m that are left have the
+--                        rest of x; or it is x's fault, and all lines l are left
 use Rattle.std.specs.Prelude.{◌≡◌, ℕ, List, Ok, Err, codes, Result}
+use Rattle.format.specs.Gives.{next_number}
 use Rattle.format.specs.declared.fault.LineFault.{LineFault}
-use Rattle.chart_text.specs.declared.line.Front.{Front}
+use Rattle.format.specs.declared.line.Lines.{Lines}
+use Rattle.chart_text.specs.declared.line.Line.{Line}
 use Rattle.chart_text.specs.declared.line.Key.{Key}
 use Rattle.chart_text.specs.declared.line.Key as key
 use Rattle.chart_text.specs.declared.line.Due.{Due}
@@ -61,11 +64,12 @@ due_value (due.TheVariants.Do v) = v.now
 due_value (due.TheVariants.To v) = v.now
 due_value (due.TheVariants.Into v) = v.now
 
-pub record DueRead (k : Key) (n : ℕ) (x : Result (List ℕ × List ℕ) LineFault) (f : Front) : Type 0 where
-  pub line : f.line.number ≡ n
-  pub named : due_key f.line.due ≡ k
-  pub value : x ≡ Ok (due_value f.line.due, f.rest.now)
+pub record DueRead (k : Key) (x : Result (List ℕ × List ℕ) LineFault) (before after : Lines) (line : Line) : Type 0 where
+  pub number : line.number ≡ before.number
+  pub named : due_key line.due ≡ k
+  pub value : x ≡ Ok (due_value line.due, after.rest.now)
+  pub next : after.number ≡ next_number before.number
 
-abbrev pub DueGives : Key → ℕ → Result (List ℕ × List ℕ) LineFault → Result Front LineFault → Type 0
-DueGives k n x (Ok f) = DueRead k n x f
-DueGives k n x (Err e) = x ≡ Err e
+abbrev pub DueGives : Key → Result (List ℕ × List ℕ) LineFault → Lines → Lines → Result Line LineFault → Type 0
+DueGives k x before after (Ok line) = DueRead k x before after line
+DueGives k x before after (Err f) = (x ≡ Err f) × (after ≡ before)

@@ -1,4 +1,3 @@
 pub mod Counts
 pub mod Keys
 pub mod Texts
-pub mod CountsLemmas

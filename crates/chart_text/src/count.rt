@@ -1,11 +1,7 @@
 // How many of something a text says there are.
-ghost use Rattle.std.specs.Prelude.{◌≡◌};
-ghost use Rattle.chart_text.specs.Counts.{positive_kind, natural_kind};
-ghost use Rattle.chart_text.specs.CountsLemmas.{positive_exact, natural_exact};
+ghost use Rattle.std.specs.Prelude.{false};
 
-use fixed::array_vec::ArrayVec;
-use format::bytes::{digits, number};
-use format::element::Element;
+use format::number::{Number, Role};
 
 // How many events, automata and states there are: the numbers of each are below.
 #[derive(Clone, Copy)]
@@ -16,65 +12,33 @@ pub struct Counts {
 }
 
 // A count of at least one.
-#[derive(Clone, Copy)]
-pub struct Positive(pub u8);
+pub type Positive = Number<FromOne>;
 
 // A count that may be none.
-#[derive(Clone, Copy)]
-pub struct Natural(pub u8);
+pub type Natural = Number<FromZero>;
 
-impl Element for Positive {
-    ghost kind = { positive_kind };
+#[derive(Clone, Copy, Debug, Default, PartialEq, Eq)]
+pub struct FromOne;
 
-    ghost wide = { 2 };
+#[derive(Clone, Copy, Debug, Default, PartialEq, Eq)]
+pub struct FromZero;
 
-    ghost exact = { positive_exact };
+impl Role for FromOne {
+    ghost LEAST = { 1 };
 
-    fn letters(self) -> ArrayVec<u8, 4> {
-        digits(self.0)
-    }
+    ghost ASCENDS = { false };
 
-    fn filler() -> Self {
-        Positive(0)
-    }
+    const LEAST: u8 = 1;
 
-    fn shape_of(bytes: &[u8]) -> Option<Self> {
-        Some(Positive(number(bytes)?))
-    }
-
-    fn may_follow(self, _before: Self) -> bool {
-        true
-    }
-
-    fn is_inside(self, limit: u8) -> bool {
-        1 <= self.0 && self.0 < limit
-    }
+    const ASCENDS: bool = false;
 }
 
-impl Element for Natural {
-    ghost kind = { natural_kind };
+impl Role for FromZero {
+    ghost LEAST = { 0 };
 
-    ghost wide = { 2 };
+    ghost ASCENDS = { false };
 
-    ghost exact = { natural_exact };
+    const LEAST: u8 = 0;
 
-    fn letters(self) -> ArrayVec<u8, 4> {
-        digits(self.0)
-    }
-
-    fn filler() -> Self {
-        Natural(0)
-    }
-
-    fn shape_of(bytes: &[u8]) -> Option<Self> {
-        Some(Natural(number(bytes)?))
-    }
-
-    fn may_follow(self, _before: Self) -> bool {
-        true
-    }
-
-    fn is_inside(self, limit: u8) -> bool {
-        self.0 < limit
-    }
+    const ASCENDS: bool = false;
 }

@@ -4,7 +4,7 @@ ghost use Rattle.format.specs.Readers.{line_at};
 ghost use Rattle.chart_text.specs.Keys.{key_text, due_key, due_value, DueGives};
 
 use format::fault::LineFault;
-use format::line::keyed_line;
+use format::line::Lines;
 
 // The keys, in the order in which they are first due.
 #[derive(Clone, Copy)]
@@ -27,6 +27,7 @@ pub enum Key {
 }
 
 // A read line: the key that was due, and its value, which is still a part of the text.
+// kept: it is a rule of the project that a read line has a case for each key.
 #[derive(Clone, Copy)]
 pub enum Due<'a> {
     Chart(&'a [u8]),
@@ -127,23 +128,14 @@ pub struct Line<'a> {
     pub due: Due<'a>,
 }
 
-// The first line of a text, and the rest.
-#[derive(Clone, Copy)]
-pub struct Front<'a> {
-    pub line: Line<'a>,
-    pub rest: &'a [u8],
-}
-
-// The first line of the text, which is line `number` and has to have the key that is due.
-pub fn due_line(key: Key, number: u16, text: &[u8]) -> Result<Front<'_>, LineFault>
-    ensures { DueGives key number (line_at (key_text key) number text.now) result }
+// The next line of a text, which has to have the key that is due. A line that is refused is not passed.
+pub fn due_line<'a>(lines: &mut Lines<'a>, key: Key) -> Result<Line<'a>, LineFault>
+    ensures { DueGives key (line_at (key_text key) lines.old.number lines.old.rest.now) lines.old lines.new result }
 {
-    let parts = keyed_line(key.text(), number, text)?;
-    Ok(Front {
-        line: Line {
-            number,
-            due: key.due(parts.front),
-        },
-        rest: parts.rest,
+    let number = lines.number;
+    let value = lines.keyed(key.text())?;
+    Ok(Line {
+        number,
+        due: key.due(value),
     })
 }

@@ -3,7 +3,7 @@ use Rattle.std.proofs.Common.{◌≡◌, ℕ, ◌<◌, ◌≤◌, ltb, Some, Non
 use Rattle.std.specs.Bool.{then_some}
 use Rattle.std.proofs.lemmas.Bool.{cases_lt, cond-true, cond-false, lt-ltb, le-ltb}
 use Rattle.chart.specs.Kinds.{automaton_no}
-use Rattle.chart.specs.declared.id.AutomatonId.{AutomatonId}
+use Rattle.chart.specs.Ids.{AutomatonId}
 use Rattle.hierarchy.specs.Hierarchies.{Hierarchy}
 use Rattle.hierarchy.proofs.Tree.{not_some}
 use Rattle.chart_tree.specs.Outlines.{home_in}

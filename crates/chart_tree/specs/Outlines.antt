@@ -5,7 +5,7 @@
 use Rattle.std.specs.Prelude.{◌≡◌, ℕ, ◌<◌, ◌≤◌, cond, Some, None, Option, nat_lt}
 use Rattle.chart.specs.Kinds.{automaton_no}
 use Rattle.chart.specs.Plans.{plan_of}
-use Rattle.chart.specs.declared.id.AutomatonId.{AutomatonId}
+use Rattle.chart.specs.Ids.{AutomatonId}
 use Rattle.chart.specs.declared.drawing.Drawing.{Drawing}
 use Rattle.hierarchy.specs.Hierarchies.{Hierarchy, Under}
 use Rattle.hierarchy.specs.Meant.{hierarchy_of}

@@ -41,6 +41,7 @@ pub fn stand_of(drawing: &Drawing, automaton: AutomatonId) -> Option<Stand>
 }
 
 // A drawing with its tree, which tells what is so in the hierarchy once the automata break no rule.
+// kept: that they break none stays a premise in the clauses, since a type for it would ask more of who has a drawing.
 #[derive(Clone, Copy)]
 pub struct Outline {
     pub drawing: Drawing,

@@ -54,7 +54,7 @@ impl Regions {
             composite: Set64::empty(),
         };
         for a in (0..drawing.automata.len()).rev() {
-            regions.gather(drawing, AutomatonId(a));
+            regions.gather(drawing, AutomatonId::new(a));
         }
         regions
     }

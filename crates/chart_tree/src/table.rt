@@ -5,6 +5,7 @@ ghost use Rattle.chart_tree.specs.Tables.{set_at};
 
 use set64::Set64;
 
+// kept: an array, and not a map or a Vec: no heap, and memory of a fixed size.
 #[derive(Clone, Copy)]
 pub struct Table<const N: usize> {
     sets: [Set64; N],
@@ -35,6 +36,7 @@ impl<const N: usize> Table<N> {
         ensures { (i v : ℕ) → set_at self.new i v ≡ (set_at self.old i v || ((nat_lt place N && i == place) && has more v)) }
     {
         let place = place as usize;
+        // kept: through `get_mut` the check knows no more of the other sets
         if place < N {
             self.sets[place] = self.sets[place].union(more);
         }

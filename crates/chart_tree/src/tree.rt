@@ -49,7 +49,7 @@ fn sides(drawing: &Drawing, regions: &Regions) -> Table<MOST_AUTOMATA>
 {
     let mut beside = Table::blank();
     for a in 0..drawing.automata.len() {
-        let more = sides_of(drawing, regions, &beside, AutomatonId(a));
+        let more = sides_of(drawing, regions, &beside, AutomatonId::new(a));
         beside.join(a, more);
     }
     beside

@@ -26,14 +26,15 @@ parts name events a s t automata states transitions =
     ++ (line_text Transitions (spelled t)
     ++ (automata ++ (states ++ transitions))))))
 
-pub text_is : (d : Drawing) (a s t : ℕ) (automata : List Automaton) (states : List State) (transitions : List Transition)
-    → a ≡ length (items d.automata) → s ≡ length (items d.states) → t ≡ length (items d.transitions)
+pub text_is : (d : Drawing) (e a s t : ℕ) (automata : List Automaton) (states : List State) (transitions : List Transition)
+    → e ≡ d.events → a ≡ length (items d.automata) → s ≡ length (items d.states) → t ≡ length (items d.transitions)
     → automata ≡ items d.automata → states ≡ items d.states → transitions ≡ items d.transitions
-    → parts (items d.name.bytes) d.events a s t (flat_map automaton_text automata) (flat_map state_text states) (flat_map (λ x. transition_text (transition_plan x)) transitions)
+    → parts (items d.name.bytes) e a s t (flat_map automaton_text automata) (flat_map state_text states) (flat_map (λ x. transition_text (transition_plan x)) transitions)
     ≡ text_of (plan_of d)
-text_is d a s t automata states transitions q r u v w z =
-    ap (λ ys. line_text Chart (items d.name.bytes) ++ (line_text Events (spelled d.events) ++ ys))
+text_is d e a s t automata states transitions p q r u v w z =
+    ap (λ ys. line_text Chart (items d.name.bytes) ++ ys)
+    (also (ap (λ n. line_text Events (spelled n)) p)
     (also (ap (λ n. line_text Automata (spelled n)) q) (also (ap (λ n. line_text States (spelled n)) r)
     (also (ap (λ n. line_text Transitions (spelled n)) (u ∙ sym (length-map (items d.transitions) transition_plan)))
     (also (ap (flat_map automaton_text) v) (also (ap (flat_map state_text) w)
-    (ap (flat_map (λ x. transition_text (transition_plan x))) z ∙ sym (flat_map-map transition_text transition_plan (items d.transitions))))))))
+    (ap (flat_map (λ x. transition_text (transition_plan x))) z ∙ sym (flat_map-map transition_text transition_plan (items d.transitions)))))))))

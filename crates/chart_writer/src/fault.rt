@@ -8,7 +8,7 @@ pub enum WriteFault {
 }
 
 impl WriteFault {
-    // The refusal's number.
+    // The refusal's number. kept: the C interface tells it.
     pub fn number(self) -> u8
         ensures { result ≡ write_fault_number self }
     {

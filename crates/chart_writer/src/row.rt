@@ -47,13 +47,13 @@ impl Spell for Drawing {
 
     fn spell<S: Sink>(&self, sink: &mut S) -> Result<(), WriteFault> {
         Line(Key::Chart, self.name).spell(sink)?;
-        let events = Natural(self.events);
+        let events = Natural::new(self.events);
         Line(Key::Events, Single { item: events }).spell(sink)?;
-        let automata = Natural(self.automata.len());
+        let automata = Natural::new(self.automata.len());
         Line(Key::Automata, Single { item: automata }).spell(sink)?;
-        let states = Natural(self.states.len());
+        let states = Natural::new(self.states.len());
         Line(Key::States, Single { item: states }).spell(sink)?;
-        let transitions = Natural(self.transitions.len());
+        let transitions = Natural::new(self.transitions.len());
         Line(Key::Transitions, Single { item: transitions }).spell(sink)?;
         Rows(self.automata.as_slice()).spell(sink)?;
         Rows(self.states.as_slice()).spell(sink)?;

@@ -1,21 +1,40 @@
 -- Cutting bytes: what the code finds by index, and that the parts make the whole. Assumes nothing.
-use Rattle.std.proofs.Common.{◌≡◌, ℕ, zero, suc, ◌<◌, eqb, List, [], ◌∷◌, ◌++◌, length, get_or, take, drop, Some, None, Option, sym, refl, ap, ◌∙◌, ap₂, ⊎_elim, arith}
-use Rattle.std.specs.List.{flat_map, AllByRecursion}
-use Rattle.std.proofs.lemmas.List.{append-nil, length-append}
+use Rattle.std.proofs.Common.{◌≡◌, ℕ, suc, ◌+◌, ◌-◌, ◌<◌, ◌≤◌, eqb, position, List, [], ◌∷◌, ◌++◌, length, take, drop, Some, None, Option, sym, refl, ap, ◌∙◌, ap₂, ⊎_elim, arith}
+use Rattle.std.specs.List.{flat_map, position_from, AllByRecursion}
+use Rattle.std.proofs.lemmas.Iterator.Adapters.{position_from-zero}
+use Rattle.std.proofs.lemmas.List.{append-nil, length-append, take_rest}
 use Rattle.std.proofs.lemmas.Bool.{cases_eq, eq-eqb, ne_eqb, eqb-true, cases_Bool}
 use Rattle.format.specs.Bytes.{Free, cut_at, behind, after_key, pieces, onto, commas, elements_of}
 
--- ---- the code's index
+-- ---- where the first such byte is
 
-pub cut_here : (b : ℕ) (t : List ℕ) (i : ℕ) → i < length t → ((k : ℕ) → k < i → get_or t k 0 ≡ b → ⊥) → get_or t i 0 ≡ b → cut_at b t ≡ Some (take i t, drop (suc i) t)
-cut_here b [] i l h e = absurd (omega arith)
-cut_here b (x ∷ xs) zero l h e = let t = eq-eqb x b e in rw t
-cut_here b (x ∷ xs) (suc i) l h e =
-    let f = ne_eqb x b (h 0 (omega arith)) in rw f (ap (behind x) (cut_here b xs i (omega arith) (λ k m. h (suc k) (omega arith)) e))
+-- a text that stands at place i, and the byte at place k
+here_from : (b i : ℕ) (t : List ℕ) (k : ℕ) → position_from (λ x. eqb x b) i t ≡ Some k → (i ≤ k) × (cut_at b t ≡ Some (take (k - i) t, drop (suc (k - i)) t))
+here_from b i [] k h = absurd (let z : ◌≡◌ {A = ℕ} 0 1 = cc in omega arith)
+here_from b i (x ∷ xs) k h =
+    ⊎_elim
+    (λ t. let g : Some i ≡ Some k = rw t at h in let q : i ≡ k = cc in let z : k - i ≡ 0 = omega arith in
+    (omega arith, rw z (rw t)))
+    (λ f. let g = here_from b (i + 1) xs k (rw f at h) in let low = g.0 in let z : k - i ≡ suc (k - (i + 1)) = omega arith in
+    (omega arith, rw z (rw f (ap (behind x) g.1))))
+    (cases_Bool (eqb x b))
 
-pub cut_none : (b : ℕ) (t : List ℕ) → ((k : ℕ) → k < length t → get_or t k 0 ≡ b → ⊥) → cut_at b t ≡ None
-cut_none b [] h = refl
-cut_none b (x ∷ xs) h = let f = ne_eqb x b (h 0 (omega arith)) in rw f (ap (behind x) (cut_none b xs (λ k m. h (suc k) (omega arith))))
+pub cut_here : (b : ℕ) (t : List ℕ) (k : ℕ) → position (λ x. eqb x b) t ≡ Some k → cut_at b t ≡ Some (take k t, take (length t - (k + 1)) (drop (k + 1) t))
+cut_here b t k h =
+    let z : k - 0 ≡ k = omega arith in
+    let n : suc k ≡ k + 1 = omega arith in
+    rw (z, n) at (here_from b 0 t k (sym (position_from-zero (λ x. eqb x b) t) ∙ h)).1 ∙ ap (λ r. Some (take k t, r)) (sym (take_rest t (k + 1)))
+
+none_from : (b i : ℕ) (t : List ℕ) → position_from (λ x. eqb x b) i t ≡ None → cut_at b t ≡ None
+none_from b i [] h = refl
+none_from b i (x ∷ xs) h =
+    ⊎_elim
+    (λ t. let g : Some i ≡ None = rw t at h in absurd (let z : ◌≡◌ {A = ℕ} 0 1 = cc in omega arith))
+    (λ f. rw f (ap (behind x) (none_from b (i + 1) xs (rw f at h))))
+    (cases_Bool (eqb x b))
+
+pub cut_none : (b : ℕ) (t : List ℕ) → position (λ x. eqb x b) t ≡ None → cut_at b t ≡ None
+cut_none b t h = none_from b 0 t (sym (position_from-zero (λ x. eqb x b) t) ∙ h)
 
 -- ---- the parts make the whole, and the whole has these parts
 

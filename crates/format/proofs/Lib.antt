@@ -1,6 +1,5 @@
 pub mod Cuts
 pub mod Laws
 pub mod Lists
-pub mod Numbers
 pub mod Wholes
 pub mod Wrongs

@@ -1,7 +1,9 @@
 -- The loop over the pieces of a list value. Assumes nothing.
-use Rattle.std.proofs.Common.{◌≡◌, ℕ, ◌+◌, ◌<◌, ◌≤◌, Bool, true, false, cond, ltb, leb, List, [], ◌∷◌, ◌++◌, map, length, get_or, drop, Some, None, Ok, Err, Option, Result, sym, refl, ap, ◌∙◌, subst, ap₂, arith}
-use Rattle.std.proofs.lemmas.List.{append_assoc, drop_more, length_push}
-use Rattle.std.proofs.lemmas.Bool.{leb-false, lt-ltb, ltb-true}
+use Rattle.std.proofs.Common.{◌≡◌, ℕ, ◌+◌, ◌≤◌, Bool, true, false, cond, not, ltb, leb, position, List, [], ◌∷◌, ◌++◌, map, length, Some, None, Ok, Err, Option, Result, sym, refl, ap, ◌∙◌, subst, ap₂, ⊎_elim, arith}
+use Rattle.std.specs.List.{position_from}
+use Rattle.std.proofs.lemmas.Iterator.Adapters.{position_from-zero}
+use Rattle.std.proofs.lemmas.List.{append_assoc, length_push}
+use Rattle.std.proofs.lemmas.Bool.{cases_Bool, leb-false, lt-ltb, ltb-true}
 use Rattle.fixed.specs.Items.{last_of}
 use Rattle.fixed.proofs.Lasts.{last_push}
 use Rattle.format.specs.Bytes.{cut_at, pieces}
@@ -89,12 +91,15 @@ module _ {E : Type 0} (k : Kind E) (most : ℕ) where
       same (Ok es) = refl
       same (Err d) = refl
 
--- ---- the loop over the elements, for their limits
+-- ---- the first element outside its limits, by its place
 
-pub outside_more : {E : Type 0} (inside : E → Bool) (xs : List E) (i : ℕ) (e : E) (t : Bool) → i < length xs → e ≡ get_or xs i e → t ≡ inside e
-    → first_outside inside i (drop i xs) ≡ cond t (first_outside inside (i + 1) (drop (i + 1) xs)) (Some i)
-outside_more inside xs i e t h r p =
-    ap (first_outside inside i) (drop_more xs i e h) ∙ ap (λ b. cond b (first_outside inside (i + 1) (drop (i + 1) xs)) (Some i)) (sym (p ∙ ap inside r))
+outside_from : {E : Type 0} (inside : E → Bool) (i : ℕ) (xs : List E) → first_outside inside i xs ≡ position_from (λ e. not (inside e)) i xs
+outside_from inside i [] = refl
+outside_from inside i (x ∷ xs) =
+    ⊎_elim (λ t. rw t (outside_from inside (i + 1) xs)) (λ f. rw f refl) (cases_Bool (inside x))
+
+pub outside_is : {E : Type 0} (inside : E → Bool) (xs : List E) → first_outside inside 0 xs ≡ position (λ e. not (inside e)) xs
+outside_is inside xs = outside_from inside 0 xs ∙ sym (position_from-zero (λ e. not (inside e)) xs)
 
 -- ---- what was formed is of its shape, in order, and not too many
 

@@ -10,7 +10,7 @@ use Rattle.format.specs.Elements.{and_then, Kind, Spells, limited, single_of, pl
 use Rattle.format.specs.Readers.{Whole}
 use Rattle.format.specs.declared.fault.ElementFault.TheVariants.{Form, Range}
 use Rattle.format.proofs.Cuts.{pieces_commas, commas_pieces, elements_some}
-use Rattle.format.proofs.Numbers.{mapped_ok}
+use Rattle.format.specs.Numbers.{mapped_ok}
 use Rattle.format.proofs.Lists.{never, same_ok, then_ok, if_ok, formed_ok}
 
 -- ---- one element

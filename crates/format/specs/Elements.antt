@@ -1,6 +1,8 @@
 -- Values of one element and of a list of elements: the form of all, then the range of all. Assumes nothing.
 --     Kind E             what an element is: its shape, its order, its limits and its spelling
 --     numbered m n a i   the kind of an element that is a number: m makes it, n is its number, a its order, i its limits
+--     number_no n        the number n of whatever is numbered
+--     number_kind m a    the kind of numbers from m on, which ascend strictly in a list if a says so
 --     single_of k l v    the one element that v is, with its number below l; a fault names element 0
 --     formed k m i o ps  the elements that the pieces ps are, the first of them element i behind o: each in turn is
 --                        tried for too many (over m), for its shape, and for its place behind the one before
@@ -11,11 +13,12 @@
 --     Ascends k o es     each element may stand behind the one before it, the first behind o
 --     GoodList k m l es at most m elements, in order, each within its limits
 --     list_text k es     the elements as they are written
-use Rattle.std.specs.Prelude.{◌≡◌, ℕ, ◌+◌, ◌<◌, ◌≤◌, Bool, true, cond, List, [], ◌∷◌, ◌++◌, map, length, Some, None, Ok, Err, Option, Result, nat_lt}
+use Rattle.std.specs.Prelude.{◌≡◌, ℕ, ◌+◌, ◌<◌, ◌≤◌, Bool, true, cond, not, ◌&&◌, ◌||◌, List, [], ◌∷◌, ◌++◌, map, length, Some, None, Ok, Err, Option, Result, nat_le, nat_lt}
 use Rattle.std.specs.List.{AllByRecursion}
 use Rattle.std.specs.Option.{option_map}
 use Rattle.fixed.specs.Items.{last_of}
 use Rattle.format.specs.Bytes.{elements_of, commas, number_of, spelled, Free}
+use Rattle.format.specs.declared.number.Number.{Number}
 use Rattle.format.specs.declared.fault.ElementFault.{ElementFault}
 use Rattle.format.specs.declared.fault.ElementFault.TheVariants.{Form, Range}
 
@@ -35,6 +38,13 @@ numbered make num after inside = record { shape = λ v. option_map make (number_
 
 abbrev pub any_order : {E : Type 0} → E → E → Bool
 any_order x y = true
+
+abbrev pub number_no : {R : Type 0} → ℕ → Number R
+number_no n = record { 0 = n; 1 = record {} }
+
+abbrev pub number_kind : {R : Type 0} → ℕ → Bool → Kind (Number R)
+number_kind least ascends =
+    numbered number_no (λ x. x.0) (λ x y. not ascends || nat_lt x.0 y.0) (λ limit x. nat_le least x.0 && nat_lt x.0 limit)
 
 -- the shapes are just the spellings: some bytes, at most wide of them, none below the digit 0
 pub record Spells {E : Type 0} (k : Kind E) (wide : ℕ) : Type 0 where

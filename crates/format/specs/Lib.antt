@@ -4,3 +4,4 @@ pub mod Faults
 pub mod Gives
 pub mod Readers
 pub mod Wrongs
+pub mod Numbers

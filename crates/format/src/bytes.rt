@@ -1,5 +1,6 @@
 // Bytes: cut in two at a byte, and read as a number.
-ghost use Rattle.std.specs.Prelude.{◌≡◌};
+ghost use Rattle.std.specs.Prelude.{◌≡◌, ◌==◌};
+ghost use Rattle.std.specs.List.{position};
 ghost use Rattle.fixed.specs.Items.{items};
 ghost use Rattle.format.specs.Gives.{CutGives};
 ghost use Rattle.format.specs.Bytes.{cut_at, number_of, spelled};
@@ -13,19 +14,23 @@ pub struct Parts<'a> {
     pub rest: &'a [u8],
 }
 
+// The place of the first `byte`.
+fn place_of(text: &[u8], byte: u8) -> Option<usize>
+    ensures { result ≡ position (λ x. x == byte) text.now }
+{
+    text.iter().position(|x| *x == byte)
+}
+
 // What stands before the first `byte`, and what stands after it.
+#[tactic(auto, using(crate::proofs::Cuts::cut_here, crate::proofs::Cuts::cut_none))]
 pub fn cut(text: &[u8], byte: u8) -> Option<Parts<'_>>
     ensures { CutGives (cut_at byte text.now) result }
 {
-    for (i, x) in text.iter().enumerate() {
-        if *x == byte {
-            return Some(Parts {
-                front: &text[0..i],
-                rest: &text[i + 1..],
-            });
-        }
-    }
-    None
+    let at = place_of(text, byte)?;
+    Some(Parts {
+        front: &text[..at],
+        rest: &text[at + 1..],
+    })
 }
 
 // The number that one or two decimal digits say, with no leading zero.
@@ -43,7 +48,7 @@ pub fn number(digits: &[u8]) -> Option<u8>
 pub fn digits(number: u8) -> ArrayVec<u8, 4>
     ensures { items result ≡ spelled number }
 {
-    let mut digits = ArrayVec::new(b'0');
+    let mut digits = ArrayVec::default();
     if number >= 10 {
         let _ = digits.push(b'0' + number / 10);
     }

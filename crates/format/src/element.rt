@@ -5,7 +5,8 @@ ghost use Rattle.format.specs.Elements.{Kind, Spells};
 
 use fixed::array_vec::ArrayVec;
 
-pub trait Element: Copy {
+// kept: `TryFrom` and `Display` have no place for the law that ties what is read to what is written.
+pub trait Element: Copy + Default {
     ghost kind: { Kind Self };
 
     ghost wide: { ℕ };
@@ -13,9 +14,6 @@ pub trait Element: Copy {
     // The element as it is written, in at most four bytes.
     fn letters(self) -> ArrayVec<u8, 4>
         ensures { items result ≡ kind.spell self };
-
-    // An element to fill places with that are not read.
-    fn filler() -> Self;
 
     // The element that the bytes are, if they have its shape.
     fn shape_of(bytes: &[u8]) -> Option<Self>

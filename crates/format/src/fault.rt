@@ -49,7 +49,7 @@ impl From<LineFault> for TextFault {
 }
 
 impl TextFault {
-    // The refusal's number.
+    // The refusal's number. kept: the C interface tells it.
     pub fn number(self) -> u8
         ensures { result ≡ fault_number self }
     {

@@ -5,4 +5,5 @@ pub mod bytes;
 pub mod element;
 pub mod fault;
 pub mod line;
+pub mod number;
 pub mod value;

@@ -1,9 +1,10 @@
 // The value of a line: one element, or a list of them.
-ghost use Rattle.std.specs.Prelude.{◌≡◌, ℕ, List, None, Result};
+ghost use Rattle.std.specs.Prelude.{◌≡◌, ℕ, not, List, None, Result};
+ghost use Rattle.std.specs.List.{position};
 ghost use Rattle.fixed.specs.Items.{items, most};
 ghost use Rattle.format.specs.Bytes.{elements_of};
 ghost use Rattle.format.specs.Gives.{GrownGives};
-ghost use Rattle.format.specs.Elements.{by, follows, next_of, grown, formed, first_outside, single_of, list_of};
+ghost use Rattle.format.specs.Elements.{by, follows, next_of, grown, formed, single_of, list_of};
 ghost use Rattle.format.specs.declared.fault.ElementFault.{ElementFault};
 
 use super::bytes::cut;
@@ -37,9 +38,7 @@ impl<E: Element> Value for Single<E> {
     ghost reads = { single_of E.kind };
 
     fn read(limit: u8, value: &[u8]) -> Result<Self, ElementFault> {
-        let Some(item) = E::shape_of(value) else {
-            return Err(ElementFault::Form { element: 0 });
-        };
+        let item = E::shape_of(value).ok_or(ElementFault::Form { element: 0 })?;
         if item.is_inside(limit) {
             Ok(Single { item })
         } else {
@@ -52,10 +51,7 @@ impl<E: Element> Value for Single<E> {
 fn fits_behind<E: Element>(before: Option<E>, item: E) -> bool
     ensures { result ≡ follows E.kind before item }
 {
-    match before {
-        None => true,
-        Some(x) => item.may_follow(x),
-    }
+    before.is_none_or(|x| item.may_follow(x))
 }
 
 // The next element of a list: too many, then its shape, then its place.
@@ -69,9 +65,7 @@ fn next_element<E: Element, const N: usize>(
     if list.is_full() {
         return Err(ElementFault::Form { element });
     }
-    let Some(item) = E::shape_of(piece) else {
-        return Err(ElementFault::Form { element });
-    };
+    let item = E::shape_of(piece).ok_or(ElementFault::Form { element })?;
     if fits_behind(list.last(), item) {
         Ok(item)
     } else {
@@ -97,11 +91,12 @@ fn add<E: Element, const N: usize>(
 fn formed_list<E: Element, const N: usize>(value: &[u8]) -> Result<ArrayVec<E, N>, ElementFault>
     ensures { by items result ≡ formed E.kind (most N) 0 None (elements_of value.now) }
 {
-    let mut list: ArrayVec<E, N> = ArrayVec::new(E::filler());
+    let mut list = ArrayVec::default();
     if value.is_empty() {
         return Ok(list);
     }
     let mut rest = value;
+    // kept: a `for` over `value.split(..)` gets no proof in a generic function (DECISIONS.md, "Today's forms")
     while let Some(parts) = cut(rest, b',') {
         add(&mut list, parts.front)?;
         rest = parts.rest;
@@ -110,17 +105,11 @@ fn formed_list<E: Element, const N: usize>(value: &[u8]) -> Result<ArrayVec<E, N
     Ok(list)
 }
 
-// The first element outside its limits.
-fn outside<E: Element, const N: usize>(list: &ArrayVec<E, N>, limit: u8) -> Option<u8>
-    ensures { result ≡ first_outside (E.kind.inside limit) 0 (items list.now) }
+// The place of the first element outside its limits.
+fn outside<E: Element>(list: &[E], limit: u8) -> Option<usize>
+    ensures { result ≡ position (λ e. not (E.kind.inside limit e)) list.now }
 {
-    let items = list.as_slice();
-    for i in 0..list.len() {
-        if !items[i as usize].is_inside(limit) {
-            return Some(i);
-        }
-    }
-    None
+    list.iter().position(|item| !item.is_inside(limit))
 }
 
 // A list of at most N elements: the form of every element, then the range of every element.
@@ -132,10 +121,12 @@ impl<E: Element, const N: usize> Value for ArrayVec<E, N> {
     ghost reads = { list_of E.kind (most N) };
 
     fn read(limit: u8, value: &[u8]) -> Result<Self, ElementFault> {
-        let list: ArrayVec<E, N> = formed_list(value)?;
-        match outside(&list, limit) {
+        let list = formed_list(value)?;
+        match outside(list.as_slice(), limit) {
             None => Ok(list),
-            Some(element) => Err(ElementFault::Range { element }),
+            Some(place) => Err(ElementFault::Range {
+                element: place as u8,
+            }),
         }
     }
 }

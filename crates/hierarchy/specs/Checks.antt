@@ -9,7 +9,7 @@
 --     CheckLaw              no fault is found exactly where the hierarchy is sound, and a fault exactly where it is the first broken rule
 use Rattle.std.specs.Prelude.{◌≡◌, ℕ, zero, suc, max, Bool, true, false, cond, not, ◌&&◌, ◌||◌, ◌↔◌, List, [], ◌∷◌, Some, None, Ok, Err, Option, Result, ◌==◌, nat_eq, nat_lt}
 use Rattle.chart.specs.Kinds.{automaton_no}
-use Rattle.chart.specs.declared.id.StateId.{StateId}
+use Rattle.chart.specs.Ids.{StateId}
 use Rattle.hierarchy.specs.Hierarchies.{Set, these, Hierarchy, Proper}
 use Rattle.hierarchy.specs.Rules.{Sound, FirstBroken}
 use Rattle.hierarchy.specs.Faults.{transition_no}

@@ -3,14 +3,15 @@
 --     chart_fault_number f  the refusal's number
 --     named_by f            the automaton or the transition that it names
 use Rattle.std.specs.Prelude.{ℕ}
-use Rattle.chart.specs.declared.id.TransitionId.{TransitionId}
+use Rattle.format.specs.Elements.{number_no}
+use Rattle.chart.specs.Ids.{TransitionId}
 use Rattle.hierarchy.specs.declared.fault.ChartFault.{ChartFault}
 use Rattle.hierarchy.specs.declared.fault.ChartFault.TheVariants.{Misplaced, StrayInitial, SplitEnds, IllFormed, NotFull}
 use Rattle.hierarchy.specs.declared.fault.Part.{Part}
 use Rattle.hierarchy.specs.declared.fault.Part.TheVariants.{Automaton, Transition}
 
 abbrev pub transition_no : ℕ → TransitionId
-transition_no n = record { 0 = n }
+transition_no = number_no
 
 abbrev pub chart_fault_number : ChartFault → ℕ
 chart_fault_number (Misplaced a) = 8

@@ -12,7 +12,7 @@
 --     Conflict h t u        two different transitions whose sources are equal, or one below the other
 --     Proper h              the numbers of a chart, told from others: so of every plan's hierarchy
 use Rattle.std.specs.Prelude.{◌≡◌, ℕ, ◌<◌, Bool, true, false, ◌||◌, ◌≢◌, ◌⊎◌, List, [], ◌∷◌, Some, Option, ◌==◌}
-use Rattle.chart.specs.declared.id.StateId.{StateId}
+use Rattle.chart.specs.Ids.{StateId}
 
 abbrev pub Set : Type 0
 Set = ℕ → Bool

@@ -6,7 +6,7 @@ use Rattle.chart.specs.Kinds.{state_no, automaton_no, event_no, condition_no}
 use Rattle.chart.specs.Plans.{Plan}
 use Rattle.chart.specs.declared.drawing.Parent.TheVariants.{Top, State}
 use Rattle.chart.specs.declared.drawing.Term.TheVariants.{Holds}
-use Rattle.chart.specs.declared.id.StateId.{StateId}
+use Rattle.chart.specs.Ids.{StateId}
 use Rattle.hierarchy.specs.Checks.{first_fault}
 use Rattle.hierarchy.specs.Faults.{transition_no}
 use Rattle.hierarchy.specs.Meant.{hierarchy_of}

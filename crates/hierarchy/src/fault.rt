@@ -27,7 +27,7 @@ pub enum Part {
 }
 
 impl ChartFault {
-    // The refusal's number.
+    // The refusal's number. kept: the C interface tells it.
     pub fn number(self) -> u8
         ensures { result ≡ chart_fault_number self }
     {

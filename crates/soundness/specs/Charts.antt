@@ -9,7 +9,7 @@
 --     none_plan             the chart `none`: one event, one automaton, one state, no transition
 --     RulesLaw              what the calculation of the first broken rule means, for every plan
 use Rattle.std.specs.Prelude.{◌≡◌, ℕ, ◌<◌, ◌≤◌, ◌⊎◌, [], ◌∷◌, Some, None, codes, Option, Result}
-use Rattle.chart.specs.declared.id.StateId.{StateId}
+use Rattle.chart.specs.Ids.{StateId}
 use Rattle.chart.specs.declared.drawing.Drawing.{Drawing}
 use Rattle.chart.specs.declared.drawing.Parent.TheVariants.{Top}
 use Rattle.chart.specs.Kinds.{state_no, automaton_no}

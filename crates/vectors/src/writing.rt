@@ -10,7 +10,8 @@ use std::test::Fail;
 
 static BLANK: [u8; 320] = [170; 320];
 
-// A page that was blank, after the drawing was written into its first bytes; and how many were written, or the refusal's number.
+// A page that was blank, after the drawing was written into its first bytes; and how many were written, or the refusal's
+// number. kept: as a number, since that is what the format gives the refusal.
 fn written(drawing: &Drawing, room: usize) -> ([u8; 320], Result<usize, u8>) {
     let mut page = BLANK;
     let answer = write(drawing, &mut page[..room.min(320)]).map_err(WriteFault::number);
@@ -46,29 +47,28 @@ fn a_buffer_that_is_long_enough_gets_the_text_and_keeps_its_other_bytes(
 }
 
 // A list of these items.
-fn list<T: Copy, const N: usize>(filler: T, items: &[T]) -> ArrayVec<T, N> {
-    let mut list = ArrayVec::new(filler);
+fn list<T: Copy + Default, const N: usize>(items: &[T]) -> ArrayVec<T, N> {
+    let mut list = ArrayVec::default();
     list.extend_from_slice(items);
     list
 }
 
 // A transition with every list in use.
 fn transition() -> Transition {
-    let state = StateId(0);
     let guard = [
-        Term::Active(StateId(5)),
-        Term::Inactive(StateId(60)),
-        Term::Holds(ConditionId(7)),
-        Term::Fails(ConditionId(31)),
+        Term::Active(StateId::new(5)),
+        Term::Inactive(StateId::new(60)),
+        Term::Holds(ConditionId::new(7)),
+        Term::Fails(ConditionId::new(31)),
     ];
     Transition {
-        source: StateId(1),
-        source_restriction: list(state, &[StateId(2), StateId(30)]),
-        trigger: EventId(4),
-        guard: list(Term::Active(state), &guard),
-        actions: list(EventId(0), &[EventId(8), EventId(8)]),
-        target: StateId(9),
-        target_determinator: list(state, &[StateId(10), StateId(63)]),
+        source: StateId::new(1),
+        source_restriction: list(&[StateId::new(2), StateId::new(30)]),
+        trigger: EventId::new(4),
+        guard: list(&guard),
+        actions: list(&[EventId::new(8), EventId::new(8)]),
+        target: StateId::new(9),
+        target_determinator: list(&[StateId::new(10), StateId::new(63)]),
     }
 }
 
@@ -76,22 +76,22 @@ fn transition() -> Transition {
 fn made_by_hand() -> Drawing {
     let top = Automaton {
         parent: Parent::Top,
-        initial: StateId(3),
+        initial: StateId::new(3),
     };
     let inner = Automaton {
-        parent: Parent::State(StateId(12)),
-        initial: StateId(45),
+        parent: Parent::State(StateId::new(12)),
+        initial: StateId::new(45),
     };
     let state = State {
-        automaton: AutomatonId(1),
+        automaton: AutomatonId::new(1),
     };
-    let bytes = list(b'_', b"by_hand");
+    let bytes = list(b"by_hand");
     Drawing {
         name: Name { bytes },
         events: 10,
-        automata: list(top, &[top, inner]),
-        states: list(state, &[state]),
-        transitions: list(transition(), &[transition()]),
+        automata: list(&[top, inner]),
+        states: list(&[state]),
+        transitions: list(&[transition()]),
     }
 }
 

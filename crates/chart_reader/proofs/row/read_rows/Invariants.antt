@@ -1,14 +1,12 @@
--- `row::read_rows`: the rows so far, with what the rest of the text gives, are the answer. Assumes nothing.
-use Rattle.std.proofs.Common.{◌≡◌, ◌+◌, ◌*◌, ◌≤◌, map, length}
+-- `row::read_rows`: the rows so far, with what the rest of the lines gives, are the answer. Assumes nothing.
+use Rattle.std.proofs.Common.{◌≡◌, ◌+◌, ◌-◌, ◌*◌, ◌≤◌, length}
 use Rattle.fixed.specs.Items.{items, most}
-use Rattle.format.specs.Readers.{times, rows_behind}
+use Rattle.chart_reader.specs.Inner.{more_rows}
 use Rattle.chart_reader.proofs.row.read_rows.Given as goal
 
-abbrev pub invariant-loop-left : goal.invariant-loop-left
-invariant-loop-left g l =
-    (length (items l.rows) + l.left ≤ most g.row.N) × (l.at + 8 * l.left ≤ l.initial.at + 8 * l.initial.left)
-    × (rows_behind (map g.R.Row.said (items l.rows)) (times l.left g.R.Row.lines (g.R.Row.reads l.counts) l.at l.rest)
-    ≡ rows_behind (map g.R.Row.said (items l.initial.rows)) (times l.initial.left g.R.Row.lines (g.R.Row.reads l.counts) l.initial.at l.initial.rest))
-
-abbrev pub decreases-loop-left : goal.decreases-loop-left
-decreases-loop-left g l = l.left
+abbrev pub invariant-loop : goal.invariant-loop
+invariant-loop g l =
+    (length (items l.rows) + (l.count - l.counter) ≤ most g.row.N) × (l.lines.number + 8 * (l.count - l.counter) ≤ l.initial.lines.number + 8 * l.count)
+    × (l.lines.number ≡ l.initial.lines.number + g.R.Row.height * l.counter)
+    × (more_rows g.R.Row.said g.R.Row.height (g.R.Row.reads l.counts) (items l.rows) (l.count - l.counter) l.lines.number l.lines.rest.now
+    ≡ more_rows g.R.Row.said g.R.Row.height (g.R.Row.reads l.counts) (items l.initial.rows) l.count l.initial.lines.number l.initial.lines.rest.now)

@@ -12,12 +12,12 @@ returns-in_err-check_automaton c =
     let h = drawn c.args.drawing.now in
     let n = automata_are c.args.drawing.now in
     let out = err_from_is_err_and c.from_residual.result c.from_residual.ensures.1 in
-    rw (out.1, out.2) (found (max 1 h.automata) (automaton_fault h) c.loop-a.a c.loop-a.invariant _ (omega arith) c.in_err-check_automaton.ensures)
+    rw (out.1, out.2) (found (max 1 h.automata) (automaton_fault h) c.loop-a.a c.loop-a.invariant _ (omega arith) (rw c.new.ensures at c.in_err-check_automaton.ensures))
 
 pub loop-a-preserved : goal.loop-a-preserved
 loop-a-preserved c =
     let h = drawn c.args.drawing.now in
-    passed_more (max 1 h.automata) (automaton_fault h) c.loop-a.a c.loop-a.invariant _ c.in_ok-check_automaton.ensures
+    passed_more (max 1 h.automata) (automaton_fault h) c.loop-a.a c.loop-a.invariant _ (rw c.new.ensures at c.in_ok-check_automaton.ensures)
 
 pub returns : goal.returns
 returns c =

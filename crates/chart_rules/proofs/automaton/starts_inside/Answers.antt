@@ -1,9 +1,10 @@
 -- `automaton::starts_inside`: by the automaton of its initial state. Assumes nothing.
-use Rattle.std.proofs.Common.{◌≡◌, ℕ, ◌<◌, Bool, false, eqb, length, Some, Decides, sym, refl, ap, ◌∙◌, subst, inl, inr, arith}
+use Rattle.std.proofs.Common.{◌≡◌, ℕ, ◌<◌, Bool, true, false, ◌&&◌, eqb, length, Some, Decides, sym, refl, ap, ◌∙◌, subst, inl, inr, arith}
 use Rattle.std.specs.Option.{option_eq}
+use Rattle.std.proofs.Math.Bool.{and-true}
 use Rattle.std.proofs.lemmas.Bool.{both_ways, cases_lt, lt-ltb, le-ltb}
 use Rattle.std.proofs.lemmas.Bool.Decides.{Decides-at, Decides-eqb}
-use Rattle.chart.specs.declared.id.AutomatonId.{AutomatonId}
+use Rattle.chart.specs.Ids.{AutomatonId}
 use Rattle.hierarchy.specs.Hierarchies.{Hierarchy}
 use Rattle.chart_tree.specs.Outlines.{drawn, home_in}
 use Rattle.chart_tree.proofs.Drawn.{automata_are, initial_read}
@@ -13,13 +14,13 @@ pub returns-in_default : goal.returns-in_default
 returns-in_default c lt = let d = c.args.drawing.now in absurd (omega (arith, automata_are d, ap length c.as_slice.ensures.value, c.in_default.ensures.lookup.3))
 
 abbrev same_no : AutomatonId → AutomatonId → Bool
-same_no a b = eqb a.0 b.0
+same_no a b = eqb a.0 b.0 && true
 
 -- whether the automaton that a state lies in is this one
 lies_in : (h : Hierarchy) (v : ℕ) (a : AutomatonId) → a.0 < h.automata → Decides (option_eq same_no (home_in h v) (Some a)) (h.home v ≡ a.0)
 lies_in h v a lt =
     elim (cases_lt (h.home v) h.automata) [
-      | inl known ↦ let t = lt-ltb (h.home v) h.automata known in rw t (Decides-eqb (h.home v) a.0)
+      | inl known ↦ let t = lt-ltb (h.home v) h.automata known in rw t (Decides-at _ _ (and-true (eqb (h.home v) a.0)) (Decides-eqb (h.home v) a.0))
       | inr past ↦ let f = le-ltb (h.home v) h.automata past in rw f ((λ e. absurd (both_ways false refl e)), (λ e. absurd (omega arith)))
     ]
 

@@ -3,7 +3,7 @@ use Rattle.std.proofs.Common.{◌≡◌, true, rules}
 use Rattle.std.proofs.lemmas.Bool.{both_ways}
 use Rattle.std.proofs.lemmas.Iterator.{cases_from_all, YieldsList-from_slice}
 use Rattle.set64.specs.Sets.{has}
-use Rattle.chart.specs.declared.id.StateId.{StateId}
+use Rattle.chart.specs.Ids.{StateId}
 use Rattle.chart_rules.proofs.Lists.{all_are}
 use Rattle.chart_rules.proofs.list.are_in.Goals as goal
 

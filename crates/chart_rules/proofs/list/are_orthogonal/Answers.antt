@@ -5,7 +5,7 @@ use Rattle.std.proofs.lemmas.Bool.Decides.{Decides-like}
 use Rattle.std.proofs.lemmas.Iterator.{cases_from_all, YieldsList-from_slice}
 use Rattle.set64.specs.Sets.{has}
 use Rattle.set64.specs.declared.Set64.{Set64}
-use Rattle.chart.specs.declared.id.StateId.{StateId}
+use Rattle.chart.specs.Ids.{StateId}
 use Rattle.hierarchy.specs.Hierarchies.{◌∈◌, these, Hierarchy, Orthogonal}
 use Rattle.chart_tree.specs.Outlines.{drawn}
 use Rattle.chart_rules.proofs.Lists.{all_are}

@@ -6,7 +6,7 @@ use Rattle.std.proofs.lemmas.Fn.{fold_over, fronts}
 use Rattle.set64.specs.Sets.{has}
 use Rattle.set64.specs.declared.Set64.{Set64}
 use Rattle.set64.proofs.Alike.{below_64}
-use Rattle.chart.specs.declared.id.StateId.{StateId}
+use Rattle.chart.specs.Ids.{StateId}
 use Rattle.hierarchy.specs.Hierarchies.{◌∈◌, these, Hierarchy, Orthogonal}
 use Rattle.chart_tree.specs.Outlines.{drawn}
 use Rattle.chart_rules.specs.Lists.{Covers}

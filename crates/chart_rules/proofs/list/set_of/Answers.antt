@@ -5,7 +5,7 @@ use Rattle.std.proofs.lemmas.Bool.Decides.{Decides-like, Decides-at, Decides-or,
 use Rattle.std.proofs.lemmas.Fn.{fold_over, fronts}
 use Rattle.set64.specs.Sets.{has}
 use Rattle.set64.specs.declared.Set64.{Set64}
-use Rattle.chart.specs.declared.id.StateId.{StateId}
+use Rattle.chart.specs.Ids.{StateId}
 use Rattle.hierarchy.specs.Hierarchies.{◌∈◌, these}
 use Rattle.chart_rules.proofs.Lists.{these_push, yields_slice}
 use Rattle.chart_rules.proofs.list.set_of.Goals as goal

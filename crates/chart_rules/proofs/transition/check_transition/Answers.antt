@@ -5,15 +5,6 @@ use Rattle.chart_tree.proofs.Drawn.{proper}
 use Rattle.chart_rules.proofs.Transitions.{joins_is, formed_is, full_is}
 use Rattle.chart_rules.proofs.transition.check_transition.Goals as goal
 
-pub returns-then-not-are_together : goal.returns-then-not-are_together
-returns-then-not-are_together c rooted says =
-    let d = c.args.outline.now.drawing in
-    let h = drawn d in
-    let t = c.args.id.0 in
-    let x = c.args.transition.now in
-    let j = joins_is h (proper d) t x says _ c.are_together.ensures in
-    rw (j ∙ c.if-not-are_together.true)
-
 pub returns-then-not-is_well_formed : goal.returns-then-not-is_well_formed
 returns-then-not-is_well_formed c rooted says =
     let d = c.args.outline.now.drawing in

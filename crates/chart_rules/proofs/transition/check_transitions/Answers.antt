@@ -14,7 +14,7 @@ returns-in_err-check_transition c rooted =
     let n = transitions_are d in
     let all = ap length c.as_slice-transitions.ensures.value in
     let out = err_from_is_err_and c.from_residual.result c.from_residual.ensures.1 in
-    let broken = c.in_err-check_transition.ensures rooted (says d t _ _ c.as_slice-transitions.ensures.value c.loop-t-test.true) in
+    let broken = (rw c.new.ensures at c.in_err-check_transition.ensures) rooted (says d t _ _ c.as_slice-transitions.ensures.value c.loop-t-test.true) in
     rw (out.1, out.2) (found (drawn d).transitions (transition_fault (drawn d)) t (c.loop-t.invariant rooted) _ (omega arith) broken)
 
 pub loop-t-preserved : goal.loop-t-preserved
@@ -22,7 +22,7 @@ loop-t-preserved c rooted =
     let d = c.args.outline.now.drawing in
     let t = c.loop-t.t in
     passed_more (drawn d).transitions (transition_fault (drawn d)) t (c.loop-t.invariant rooted) _
-    (c.in_ok-check_transition.ensures rooted (says d t _ _ c.as_slice-transitions.ensures.value c.loop-t-test.true))
+    ((rw c.new.ensures at c.in_ok-check_transition.ensures) rooted (says d t _ _ c.as_slice-transitions.ensures.value c.loop-t-test.true))
 
 pub returns : goal.returns
 returns c rooted =

@@ -9,7 +9,8 @@ use Rattle.chart_tree.proofs.tree.sides.Goals as goal
 pub loop-a-preserved : goal.loop-a-preserved
 loop-a-preserved c rooted stage =
     let sides = c.loop-a.invariant rooted stage in
-    sides_next (drawn c.args.drawing.now) c.loop-a.a c.loop-a.beside c.join.new.self c.sides_of-more.result (omega arith) sides c.join.ensures (c.sides_of-more.ensures rooted stage sides)
+    let more = rw c.new.ensures at c.sides_of-more.ensures in
+    sides_next (drawn c.args.drawing.now) c.loop-a.a c.loop-a.beside c.join.new.self c.sides_of-more.result (omega arith) sides c.join.ensures (more rooted stage sides)
 
 pub returns : goal.returns
 returns c rooted stage =

@@ -4,7 +4,7 @@ use Rattle.std.specs.List.{HoldsAt}
 use Rattle.fixed.specs.Items.{items}
 use Rattle.chart.specs.declared.drawing.Drawing.{Drawing}
 use Rattle.chart.specs.declared.drawing.Transition.{Transition}
-use Rattle.chart.specs.declared.id.StateId.{StateId}
+use Rattle.chart.specs.Ids.{StateId}
 use Rattle.chart_rules.specs.Lists.{Says}
 use Rattle.chart_rules.proofs.Said.{transitions_are, says}
 use Rattle.chart_rules.proofs.Somes.{some_weaker, some_only}

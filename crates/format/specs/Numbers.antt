@@ -3,7 +3,7 @@ use Rattle.std.proofs.Common.{◌≡◌, ℕ, ◌+◌, ◌-◌, ◌*◌, ◌/◌
 use Rattle.std.specs.Option.{option_map}
 use Rattle.std.proofs.lemmas.Bool.{lt-ltb, le-ltb, le-leb, cases_lt, and_parts, and_from, leb-true, ltb-true}
 use Rattle.format.specs.Bytes.{Free, is_digit, number_of, spelled}
-use Rattle.format.specs.Elements.{Spells, numbered}
+use Rattle.format.specs.Elements.{Spells, numbered, number_no, number_kind}
 
 never : {A : Type 0} {C : Type 0} (a : A) → ◌≡◌ {A = Option A} None (Some a) → C
 never a h = absurd (let z : ◌≡◌ {A = ℕ} 0 1 = cc in omega arith)
@@ -80,3 +80,15 @@ numbered_exact make num after inside back forth small = record {
   short = λ e. spelled_short (num e);
   free = λ b h e. spelled_free b (num e) h;
 }
+
+-- within its limits: the least number, and the limit that it is below
+pub bounds_to : (least limit n : ℕ) → (leb least n && ltb n limit) ≡ true → (least ≤ n) × (n < limit)
+bounds_to least limit n h = let g = and_parts (leb least n) (ltb n limit) h in (leb-true least n g.0, ltb-true n limit g.1)
+
+pub bounds_from : (least limit n : ℕ) → least ≤ n → n < limit → (leb least n && ltb n limit) ≡ true
+bounds_from least limit n l h = and_from (leb least n) (ltb n limit) (le-leb least n l) (lt-ltb n limit h)
+
+-- numbers of anything, from some least one on
+pub number_exact : {R : Type 0} (least : ℕ) (ascends : Bool) → Spells (number_kind {R = R} least ascends) 2
+number_exact least ascends =
+    numbered_exact number_no (λ x. x.0) _ _ (λ n. refl) (λ x. refl) (λ limit l x h. omega (arith, (bounds_to least limit x.0 h).1))
