@@ -28,7 +28,7 @@ pub struct Conditions;
 #[derive(Clone, Copy, Debug, Default, PartialEq, Eq)]
 pub struct Transitions;
 
-// kept: a role says both constants, since a trait that gives one a value and a ghost member gets no proof
+// kept: each role says both constants: tried, but a trait that gives one a value and a ghost member gets no proof
 // (DECISIONS.md, "Today's forms").
 
 // A list of states ascends.

@@ -117,10 +117,7 @@ pub(super) fn read_rows<R: Row, const N: usize>(
 {
     for _ in 0..count {
         let row = R::read_row(lines, counts)?;
-        match rows.push(row) {
-            Ok(()) => {}
-            Err(_) => unreachable(),
-        }
+        rows.push(row).unwrap();
     }
     Ok(())
 }

@@ -33,6 +33,7 @@ impl Role for FromOne {
     const ASCENDS: bool = false;
 }
 
+// kept: as each role says both constants
 impl Role for FromZero {
     ghost LEAST = { 0 };
 

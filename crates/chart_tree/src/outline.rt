@@ -41,7 +41,8 @@ pub fn stand_of(drawing: &Drawing, automaton: AutomatonId) -> Option<Stand>
 }
 
 // A drawing with its tree, which tells what is so in the hierarchy once the automata break no rule.
-// kept: that they break none stays a premise in the clauses, since a type for it would ask more of who has a drawing.
+// kept: that they break none stays a premise in the clauses: by a rule of the project no call may ask more than before,
+// and a type for it would.
 #[derive(Clone, Copy)]
 pub struct Outline {
     pub drawing: Drawing,

@@ -36,7 +36,7 @@ impl<const N: usize> Table<N> {
         ensures { (i v : ℕ) → set_at self.new i v ≡ (set_at self.old i v || ((nat_lt place N && i == place) && has more v)) }
     {
         let place = place as usize;
-        // kept: through `get_mut` the check knows no more of the other sets
+        // kept: tried, but through `get_mut` the check knows no more of the other sets
         if place < N {
             self.sets[place] = self.sets[place].union(more);
         }

@@ -8,7 +8,7 @@ pub enum WriteFault {
 }
 
 impl WriteFault {
-    // The refusal's number. kept: the C interface tells it.
+    // The refusal's number. kept: the format gives each refusal a number (CHARTS.md).
     pub fn number(self) -> u8
         ensures { result ≡ write_fault_number self }
     {

@@ -40,6 +40,7 @@ impl Sink for Meter {
 }
 
 // A buffer, and how many bytes at its start are written.
+// kept: no plainer with only the rest in it, since what was written is told of the whole buffer at the end.
 #[derive(Drop)]
 pub(crate) struct Page<'a> {
     pub(crate) out: &'a mut [u8],

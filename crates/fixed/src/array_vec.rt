@@ -2,8 +2,8 @@
 ghost use Rattle.std.specs.Prelude.{◌≡◌, ◌<◌, ◌≤◌, [], ◌∷◌, ◌++◌, length, take, nat_le};
 ghost use Rattle.fixed.specs.Items.{items, most, last_of, Pushed};
 
-// kept: no heap, and memory of a fixed size; the kit's own such list has a word for its length and is not Copy, and
-// with a ghost field or a model this one could not be (DECISIONS.md, "Today's forms").
+// kept: no heap, and memory of a fixed size; the kit's own such list has a word for its length and is not Copy. And no
+// ghost field says that the length fits: tried, it wants a Clone by hand and a file of its own, and spares one `min`.
 //
 // Every value means a list, `items`: what stands in the first `len` places, or in all of them if `len` is larger.
 // So there is nothing for a caller to keep true. The places behind are filler.

@@ -5,7 +5,7 @@ ghost use Rattle.format.specs.Elements.{Kind, Spells};
 
 use fixed::array_vec::ArrayVec;
 
-// kept: `TryFrom` and `Display` have no place for the law that ties what is read to what is written.
+// kept: `TryFrom` and `Display` would be no plainer, with an error that says nothing and a formatter for four bytes.
 pub trait Element: Copy + Default {
     ghost kind: { Kind Self };
 

@@ -81,10 +81,8 @@ fn add<E: Element, const N: usize>(
     ensures { GrownGives (grown E.kind (most N) (items list.old) piece.now) (items list.new) result }
 {
     let item = next_element(list, piece)?;
-    match list.push(item) {
-        Ok(()) => Ok(()),
-        Err(_) => unreachable(),
-    }
+    list.push(item).unwrap();
+    Ok(())
 }
 
 // The form of every element.
@@ -96,7 +94,7 @@ fn formed_list<E: Element, const N: usize>(value: &[u8]) -> Result<ArrayVec<E, N
         return Ok(list);
     }
     let mut rest = value;
-    // kept: a `for` over `value.split(..)` gets no proof in a generic function (DECISIONS.md, "Today's forms")
+    // kept: tried, but a `for` over `value.split(..)` gets no proof in a generic function (DECISIONS.md, "Today's forms")
     while let Some(parts) = cut(rest, b',') {
         add(&mut list, parts.front)?;
         rest = parts.rest;

@@ -99,7 +99,7 @@ impl Set64 {
         self.word == 0
     }
 
-    // Whether the two have the same members. Then they are one set.
+    // Whether the two have the same members. Then they are one set. kept: `==` by itself promises less.
     pub fn is_same(self, other: Set64) -> bool
         ensures alike { Decides result ((n : ℕ) → has self n ≡ has other n) }
         ensures one { Decides result (self ≡ other) }

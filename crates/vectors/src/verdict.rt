@@ -40,6 +40,7 @@ pub fn judged(rt: &impl Abort, text: &[u8], expected: Verdict) -> Result<(), Fai
 }
 
 // A text that is put together, and what is to become of it.
+// kept: tried, but runtime and heap are handed on apart, since a helper has `Abort` by a bound alone, which has no heap.
 pub fn hold_pieces(
     rt: &impl Abort,
     heap: Global,
