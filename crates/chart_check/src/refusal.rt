@@ -30,7 +30,7 @@ impl fmt::Display for Place {
 // A refusal by its number, its place and its meaning.
 #[derive(Clone, Copy)]
 pub struct Refusal {
-    // kept: the number is what whoever mends the text looks up
+    // kept: a fault in its place would be no plainer, since the number is what is printed and looked up
     number: u8,
     place: Place,
     meaning: &'static str,

@@ -33,7 +33,8 @@ impl Role for FromOne {
     const ASCENDS: bool = false;
 }
 
-// kept: as each role says both constants
+// kept: each role says both constants: tried, but a trait that gives one a value and a ghost member gets no proof
+// (DECISIONS.md, "Today's forms").
 impl Role for FromZero {
     ghost LEAST = { 0 };
 

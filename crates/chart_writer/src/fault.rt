@@ -8,7 +8,7 @@ pub enum WriteFault {
 }
 
 impl WriteFault {
-    // The refusal's number. kept: the format gives each refusal a number (CHARTS.md).
+    // The refusal's number. kept: no plainer, since the format gives this refusal a number (CHARTS.md), and an enum has none.
     pub fn number(self) -> u8
         ensures { result ≡ write_fault_number self }
     {

@@ -14,7 +14,7 @@ pub enum Verdict {
     // read, and written back in another way: what is never to be
     Changed,
     // the number, the line and the element of the refusal
-    // kept: as numbers, since the cases name refusals by the numbers that the format gives them
+    // kept: faults in their place would be no plainer, since the format names refusals by their numbers
     Refused(u8, u16, Option<u8>),
 }
 

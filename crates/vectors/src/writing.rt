@@ -11,7 +11,7 @@ use std::test::Fail;
 static BLANK: [u8; 320] = [170; 320];
 
 // A page that was blank, after the drawing was written into its first bytes; and how many were written, or the refusal's
-// number. kept: as a number, since that is what the format gives the refusal.
+// number. kept: the fault would be no plainer, since the format gives the refusal as a number.
 fn written(drawing: &Drawing, room: usize) -> ([u8; 320], Result<usize, u8>) {
     let mut page = BLANK;
     let answer = write(drawing, &mut page[..room.min(320)]).map_err(WriteFault::number);
