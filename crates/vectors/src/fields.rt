@@ -5,9 +5,9 @@ use chart::id::{AutomatonId, ConditionId, EventId, StateId};
 use chart_reader::reader::read;
 use std::test::Fail;
 
-#[test]
-fn the_worked_chart_has_3_events_3_automata_and_6_states(rt: HostRuntime) -> Result<(), Fail> {
-    let automata = [
+// The worked chart's automata: the top one, and two under its second state.
+fn automata() -> [Automaton; 3] {
+    [
         Automaton {
             parent: Parent::Top,
             initial: StateId::new(0),
@@ -20,8 +20,12 @@ fn the_worked_chart_has_3_events_3_automata_and_6_states(rt: HostRuntime) -> Res
             parent: Parent::State(StateId::new(1)),
             initial: StateId::new(4),
         },
-    ];
-    let states = [
+    ]
+}
+
+// Its states, two in each automaton.
+fn states() -> [State; 6] {
+    [
         State {
             automaton: AutomatonId::new(0),
         },
@@ -40,12 +44,16 @@ fn the_worked_chart_has_3_events_3_automata_and_6_states(rt: HostRuntime) -> Res
         State {
             automaton: AutomatonId::new(2),
         },
-    ];
+    ]
+}
+
+#[test]
+fn the_worked_chart_has_3_events_3_automata_and_6_states(rt: HostRuntime) -> Result<(), Fail> {
     let drawing = read(WORKED)?;
     assert_eq!(rt; drawing.name.bytes.as_slice(), b"rower".as_slice());
     assert_eq!(rt; drawing.events, 3);
-    assert_eq!(rt; drawing.automata.as_slice(), automata.as_slice());
-    assert_eq!(rt; drawing.states.as_slice(), states.as_slice());
+    assert_eq!(rt; drawing.automata.as_slice(), automata().as_slice());
+    assert_eq!(rt; drawing.states.as_slice(), states().as_slice());
     Ok(())
 }
 
