@@ -68,8 +68,10 @@ fn lettered(letter: u8, number: u8) -> ArrayVec<u8, 4>
 {
     let mut letters = ArrayVec::default();
     let _ = letters.push(letter);
-    let digits = digits(number);
-    letters.extend_from_slice(digits.as_slice());
+    if number >= 10 {
+        let _ = letters.push(b'0' + number / 10);
+    }
+    let _ = letters.push(b'0' + number % 10);
     letters
 }
 

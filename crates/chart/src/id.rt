@@ -1,7 +1,7 @@
 // Things of a chart go by their numbers, which count from 0 in the order of the text.
 ghost use Rattle.std.specs.Prelude.{true, false};
 
-use format::number::{Number, Role};
+use format::number::{Named, Number, Role};
 
 pub type StateId = Number<States>;
 
@@ -16,17 +16,37 @@ pub type TransitionId = Number<Transitions>;
 #[derive(Clone, Copy, Debug, Default, PartialEq, Eq)]
 pub struct States;
 
+impl Named for States {
+    const NAME: &'static str = "StateId";
+}
+
 #[derive(Clone, Copy, Debug, Default, PartialEq, Eq)]
 pub struct Automata;
+
+impl Named for Automata {
+    const NAME: &'static str = "AutomatonId";
+}
 
 #[derive(Clone, Copy, Debug, Default, PartialEq, Eq)]
 pub struct Events;
 
+impl Named for Events {
+    const NAME: &'static str = "EventId";
+}
+
 #[derive(Clone, Copy, Debug, Default, PartialEq, Eq)]
 pub struct Conditions;
 
+impl Named for Conditions {
+    const NAME: &'static str = "ConditionId";
+}
+
 #[derive(Clone, Copy, Debug, Default, PartialEq, Eq)]
 pub struct Transitions;
+
+impl Named for Transitions {
+    const NAME: &'static str = "TransitionId";
+}
 
 // kept: each role says both constants: tried, but a trait that gives one a value and a ghost member gets no proof
 // (DECISIONS.md, "Today's forms").

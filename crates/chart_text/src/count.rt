@@ -1,7 +1,7 @@
 // How many of something a text says there are.
 ghost use Rattle.std.specs.Prelude.{false};
 
-use format::number::{Number, Role};
+use format::number::{Named, Number, Role};
 
 // How many events, automata and states there are: the numbers of each are below.
 #[derive(Clone, Copy)]
@@ -20,8 +20,16 @@ pub type Natural = Number<FromZero>;
 #[derive(Clone, Copy, Debug, Default, PartialEq, Eq)]
 pub struct FromOne;
 
+impl Named for FromOne {
+    const NAME: &'static str = "Positive";
+}
+
 #[derive(Clone, Copy, Debug, Default, PartialEq, Eq)]
 pub struct FromZero;
+
+impl Named for FromZero {
+    const NAME: &'static str = "Natural";
+}
 
 impl Role for FromOne {
     ghost LEAST = { 1 };

@@ -1,5 +1,5 @@
 -- Lists and rows written one by one: one more, all of them, and that a part of them is no longer than all. Assumes nothing.
-use Rattle.std.proofs.Common.{◌≡◌, ℕ, zero, suc, ◌+◌, ◌<◌, ◌≤◌, List, [], ◌∷◌, ◌++◌, map, length, get_or, take, sym, ap, ◌∙◌, arith}
+use Rattle.std.proofs.Common.{◌≡◌, ℕ, zero, suc, ◌+◌, ◌<◌, ◌≤◌, List, [], ◌∷◌, ◌++◌, map, length, get_or, take, sym, refl, ap, ◌∙◌, arith}
 use Rattle.std.specs.List.{flat_map}
 use Rattle.std.proofs.lemmas.List.{append-nil, length-append, length-take-le, take_more, take-map, map_push, flat_map_more}
 use Rattle.format.specs.Elements.{Kind, list_text}
@@ -18,6 +18,11 @@ rows_fit f [] i x h e = omega arith
 rows_fit f (y ∷ ys) zero x h e = omega (arith, length-append (f y) (flat_map f ys), ap (λ z. length (f z)) e)
 rows_fit f (y ∷ ys) (suc i) x h e =
     omega (arith, rows_fit f ys i x (omega arith) e, length-append (f y) (flat_map f (take i ys)), length-append (f y) (flat_map f ys))
+
+-- bytes spelled one by one
+pub bytes_alone : (bytes : List ℕ) → flat_map (λ byte. byte ∷ []) bytes ≡ bytes
+bytes_alone [] = refl
+bytes_alone (byte ∷ bytes) = ap (λ rest. byte ∷ rest) (bytes_alone bytes)
 
 module _ {E : Type 0} (k : Kind E) where
   list_push : (es : List E) (x : E) → list_text k es ++ (comma_at (length es) ++ k.spell x) ≡ list_text k (es ++ (x ∷ []))

@@ -13,6 +13,7 @@ use format::value::Single;
 impl Spell for Automaton {
     ghost spelling = { automaton_text };
 
+    #[inline(always)]
     fn spell<S: Sink>(&self, sink: &mut S) -> Result<(), WriteFault> {
         Line(Key::Under, Single { item: self.parent }).spell(sink)?;
         Line(Key::First, Single { item: self.initial }).spell(sink)
@@ -22,6 +23,7 @@ impl Spell for Automaton {
 impl Spell for State {
     ghost spelling = { state_text };
 
+    #[inline(always)]
     fn spell<S: Sink>(&self, sink: &mut S) -> Result<(), WriteFault> {
         let item = self.automaton;
         Line(Key::In, Single { item }).spell(sink)
@@ -31,6 +33,7 @@ impl Spell for State {
 impl Spell for Transition {
     ghost spelling = { λ t. transition_text (transition_plan t) };
 
+    #[inline(always)]
     fn spell<S: Sink>(&self, sink: &mut S) -> Result<(), WriteFault> {
         Line(Key::From, Single { item: self.source }).spell(sink)?;
         Line(Key::With, self.source_restriction).spell(sink)?;
@@ -45,6 +48,7 @@ impl Spell for Transition {
 impl Spell for Drawing {
     ghost spelling = { λ d. text_of (plan_of d) };
 
+    #[inline(always)]
     fn spell<S: Sink>(&self, sink: &mut S) -> Result<(), WriteFault> {
         Line(Key::Chart, self.name).spell(sink)?;
         let events = Natural::new(self.events);

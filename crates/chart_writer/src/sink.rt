@@ -30,6 +30,7 @@ impl Sink for Meter {
 
     ghost laws = { record { nothing = λ m. tt; more = λ m n o a b p q. tt } };
 
+    #[inline(always)]
     fn put(&mut self, bytes: &[u8]) -> Result<(), WriteFault> {
         let Some(left) = self.0.checked_sub(bytes.len()) else {
             return Err(WriteFault::BufferTooShort);
@@ -58,6 +59,7 @@ impl Sink for Page<'_> {
       more = λ p q r a b h k. (h.0 ∙ k.0, extends_more a b p.at p.out.now q.at q.out.now r.at r.out.now h.1 k.1);
     } };
 
+    #[inline(always)]
     fn put(&mut self, bytes: &[u8]) -> Result<(), WriteFault> {
         if self.out.len() - self.at < bytes.len() {
             return Err(WriteFault::BufferTooShort);

@@ -1,5 +1,5 @@
 // What is spelled as bytes: in a line, and one behind the other.
-ghost use Rattle.std.specs.Prelude.{ℕ, List};
+ghost use Rattle.std.specs.Prelude.{ℕ, List, [], ◌∷◌};
 ghost use Rattle.std.specs.List.{flat_map};
 ghost use Rattle.chart_text.specs.Texts.{line_text};
 ghost use Rattle.chart_writer.specs.Sinks.{Puts};
@@ -8,6 +8,7 @@ use super::fault::WriteFault;
 use super::sink::Sink;
 use chart_text::line::Key;
 
+// Each `spell` is inlined, down to the sink's `put`: where the compiler sees how long a piece is, it copies it by no call.
 pub(crate) trait Spell {
     ghost spelling: { Self → List ℕ };
 
@@ -23,10 +24,21 @@ pub(crate) struct Line<V>(pub(crate) Key, pub(crate) V);
 impl<V: Spell> Spell for Line<V> {
     ghost spelling = { λ s. line_text s.0 (V.spelling s.1) };
 
+    #[inline(always)]
     fn spell<S: Sink>(&self, sink: &mut S) -> Result<(), WriteFault> {
         sink.put(self.0.text())?;
         self.1.spell(sink)?;
         sink.put(b"\n")
+    }
+}
+
+// A byte.
+impl Spell for u8 {
+    ghost spelling = { λ byte. byte ∷ [] };
+
+    #[inline(always)]
+    fn spell<S: Sink>(&self, sink: &mut S) -> Result<(), WriteFault> {
+        sink.put(&[*self])
     }
 }
 
@@ -38,6 +50,7 @@ impl<'a, R: Spell> Spell for Rows<'a, R> {
     ghost spelling = { λ s. flat_map R.spelling s.0.now };
 
     #[tactic(auto, using(crate::proofs::Lists::rows_fit))]
+    #[inline(always)]
     fn spell<S: Sink>(&self, sink: &mut S) -> Result<(), WriteFault> {
         let rows = self.0;
         for row in rows {

@@ -6,6 +6,7 @@ ghost use Rattle.format.specs.Numbers.{number_exact};
 use super::bytes::{digits, number};
 use super::element::Element;
 use fixed::array_vec::ArrayVec;
+use std::fmt;
 use std::marker::PhantomData;
 
 // What numbers are of, and what a text may say of them.
@@ -21,9 +22,20 @@ pub trait Role: Copy + Default {
     const ASCENDS: bool;
 }
 
-// A number of what R says.
-#[derive(Clone, Copy, Debug, Default, PartialEq, Eq)]
-pub struct Number<R>(pub u8, PhantomData<R>);
+// A number of what R says. Where no call may stand, as in a static, it is made as `Number(0, PhantomData)`.
+#[derive(Clone, Copy, Default, PartialEq, Eq)]
+pub struct Number<R>(pub u8, pub PhantomData<R>);
+
+// What the numbers of something are called where they are printed for a programmer.
+pub trait Named {
+    const NAME: &'static str;
+}
+
+impl<R: Named> fmt::Debug for Number<R> {
+    fn fmt<W: fmt::Write>(&self, f: &mut fmt::Formatter<W>) -> fmt::Result {
+        f.debug_tuple(R::NAME).field(&self.0).finish()
+    }
+}
 
 impl<R> Number<R> {
     pub fn new(number: u8) -> Self

@@ -6,6 +6,8 @@ mod bytes;
 #[cfg(test)]
 mod fields;
 #[cfg(test)]
+mod ids;
+#[cfg(test)]
 mod lines;
 #[cfg(test)]
 mod lists;
