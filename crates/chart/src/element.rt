@@ -63,10 +63,11 @@ impl Element for Term {
 }
 
 // A letter and then a number.
+// kept: its digits are pushed as in `digits`: tried with that and `extend_from_slice`, but writing a term took longer.
 fn lettered(letter: u8, number: u8) -> ArrayVec<u8, 4>
     ensures { items result ≡ letter ∷ spelled number }
 {
-    let mut letters = ArrayVec::default();
+    let mut letters = ArrayVec::new(letter);
     let _ = letters.push(letter);
     if number >= 10 {
         let _ = letters.push(b'0' + number / 10);
@@ -120,7 +121,7 @@ fn is_top(bytes: &[u8]) -> bool
 fn top() -> ArrayVec<u8, 4>
     ensures { items result ≡ codes "top" }
 {
-    let mut letters = ArrayVec::default();
+    let mut letters = ArrayVec::new(b't');
     letters.extend_from_slice(b"top");
     letters
 }

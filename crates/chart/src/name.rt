@@ -5,6 +5,7 @@ ghost use Rattle.fixed.specs.Items.{items};
 ghost use Rattle.chart.specs.Kinds.{is_name_byte, name_of};
 
 use super::drawing::{MOST_NAME_BYTES, Name};
+use fixed::array_vec::ArrayVec;
 use format::fault::ElementFault;
 use format::value::Value;
 use std::fmt;
@@ -33,9 +34,9 @@ impl Value for Name {
     // A name has 1 to 16 bytes; how many there are is a matter of its form.
     fn read(_limit: u8, value: &[u8]) -> Result<Self, ElementFault> {
         if 1 <= value.len() && value.len() <= MOST_NAME_BYTES && is_plain(value) {
-            let mut name = Name::default();
-            name.bytes.extend_from_slice(value);
-            Ok(name)
+            let mut bytes = ArrayVec::new(b'_');
+            bytes.extend_from_slice(value);
+            Ok(Name { bytes })
         } else {
             Err(ElementFault::Form { element: 0 })
         }

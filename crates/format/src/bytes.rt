@@ -48,7 +48,7 @@ pub fn number(digits: &[u8]) -> Option<u8>
 pub fn digits(number: u8) -> ArrayVec<u8, 4>
     ensures { items result ≡ spelled number }
 {
-    let mut digits = ArrayVec::default();
+    let mut digits = ArrayVec::new(b'0');
     if number >= 10 {
         let _ = digits.push(b'0' + number / 10);
     }

@@ -7,13 +7,15 @@ use super::check::judge;
 use super::sound_chart::Chart;
 use chart::drawing::{Automaton, Drawing, Name, Parent, State};
 use chart::id::{AutomatonId, StateId};
+use fixed::array_vec::ArrayVec;
 
 // One event, one automaton, one state, no transition.
 fn least() -> Drawing
     ensures { plan_of result ≡ none_plan }
 {
-    let mut name = Name::default();
-    name.bytes.extend_from_slice(b"none");
+    let mut bytes = ArrayVec::new(b'_');
+    bytes.extend_from_slice(b"none");
+    let name = Name { bytes };
     let mut drawing = Drawing::blank(name, 1);
     let _ = drawing.automata.push(Automaton {
         parent: Parent::Top,

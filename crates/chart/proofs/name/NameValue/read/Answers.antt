@@ -10,4 +10,4 @@ returns-then-is_plain c =
     let a = le-leb 1 (length v) (omega arith) in
     let b = le-leb (length v) 16 (omega arith) in
     let p = sym c.if-is_plain.ensures in
-    ap (λ xs. Ok xs) (c.extend_from_slice.ensures ∙ ap (λ xs. take 16 (xs ++ v)) c.default-name.ensures ∙ take_all 16 v (omega arith)) ∙ sym (rw (a, b, p))
+    ap (λ xs. Ok xs) (c.extend_from_slice.ensures ∙ ap (λ xs. take 16 (xs ++ v)) c.new-bytes.ensures ∙ take_all 16 v (omega arith)) ∙ sym (rw (a, b, p))
